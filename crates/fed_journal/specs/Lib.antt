@@ -1,0 +1,11 @@
+pub mod Configuration
+pub mod Copies
+pub mod Counted
+pub mod Flight
+pub mod Holds
+pub mod Links
+pub mod Names
+pub mod Outgoing
+pub mod Phases
+pub mod View
+pub mod Words

@@ -1,0 +1,95 @@
+//! What the journal records.
+use crate::event::Shovel;
+use crate::message::Message;
+use crate::place::{Place, QueueOptions};
+use crate::text::{Names, Text};
+
+/// Who published a message.
+#[derive(Drop)]
+pub enum Publisher {
+    Client {
+        connection: u16,
+        channel: u16,
+    },
+    /// A session of a link, from a copy that it took.
+    Link {
+        link: Text,
+        session: u32,
+        copy: u64,
+    },
+}
+
+/// A publication and the queues that it was routed to.
+#[derive(Drop)]
+pub struct Publication {
+    pub place: Place,
+    pub number: u64,
+    pub by: Publisher,
+    pub message: Message,
+    /// The greatest limit of a gate on its way; 0 without gates.
+    pub limit: u32,
+    /// The number of its first copy; 0 if it has none. The others follow in the order of the queues.
+    pub first: u64,
+    pub queues: Names,
+}
+
+/// One fact of a run. Sessions are numbered from 1 for each link, copies and publications from 1
+/// over the whole run.
+#[derive(Drop)]
+pub enum Entry {
+    /// A broker of the run, with its cluster name and its kept definitions.
+    Begun {
+        broker: Text,
+        cluster: Text,
+        kept: Text,
+    },
+    /// A queue was declared.
+    MadeQueue {
+        place: Place,
+        queue: Text,
+        options: QueueOptions,
+    },
+    Published(Publication),
+    /// The broker stored what it holds.
+    Flushed { broker: Text },
+    Took {
+        link: Text,
+        session: u32,
+        copy: u64,
+    },
+    Sent {
+        link: Text,
+        session: u32,
+        copy: u64,
+    },
+    /// The target's publisher confirm came back to the link.
+    Confirmed {
+        link: Text,
+        session: u32,
+        publication: u64,
+    },
+    /// The link acknowledged the copy.
+    Noted {
+        link: Text,
+        session: u32,
+        copy: u64,
+    },
+    /// The source removed the copy.
+    Settled {
+        link: Text,
+        session: u32,
+        copy: u64,
+    },
+    /// The link connected to both ends; `ready` copies were ready at its source.
+    Opened {
+        link: Text,
+        session: u32,
+        ready: u64,
+    },
+    /// A shovel's parameter was set.
+    ShovelSet {
+        place: Place,
+        name: Text,
+        shovel: Shovel,
+    },
+}

@@ -1,0 +1,58 @@
+//! The single steps of a run.
+use crate::link::AckMode;
+use crate::place::Place;
+use crate::text::{Octets, Text};
+
+/// A shovel as its parameter sets it (RabbitMQ, dynamic shovels): the run names of the brokers that
+/// its URIs name, its queues and its mode.
+#[derive(Clone, Drop)]
+pub struct Shovel {
+    pub source: Text,
+    pub source_queue: Text,
+    pub target: Text,
+    pub target_queue: Text,
+    pub mode: AckMode,
+}
+
+/// One action of one actor. A client's number is that of its connection, whose channel is 1.
+#[derive(Drop)]
+pub enum Event {
+    /// queue.declare of a durable queue by a client.
+    DeclareQueue {
+        place: Place,
+        client: u16,
+        queue: Text,
+    },
+    /// basic.publish to the default exchange by a client.
+    Publish {
+        place: Place,
+        client: u16,
+        key: Text,
+        body: Octets,
+        persistent: bool,
+    },
+    /// The broker stores what it holds.
+    Flush { broker: Text },
+    /// An operator sets a shovel's parameter.
+    SetShovel {
+        place: Place,
+        name: Text,
+        shovel: Shovel,
+    },
+    /// The link connects to both of its ends.
+    Open { link: Text },
+    /// The source hands a copy to the link.
+    Take { link: Text },
+    /// The link sends a message to the target.
+    Send { link: Text },
+    /// The target publishes what was sent.
+    Accept { link: Text },
+    /// The target confirms a publication.
+    Confirm { link: Text },
+    /// The link acknowledges a copy.
+    Note { link: Text },
+    /// The source removes an acknowledged copy.
+    Settle { link: Text },
+    /// The listing is printed.
+    Show,
+}

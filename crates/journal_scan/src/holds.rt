@@ -1,0 +1,61 @@
+//! Which copies are handed out, and which are ready.
+ghost use Rattle.std.specs.Prelude.{◌≡◌, All, fold, is_some, None};
+ghost use Rattle.fed_journal.specs.Copies.{IsNumbered};
+ghost use Rattle.fed_journal.specs.Holds.{is_held, is_ready, first_ready, ready_count, hold_step};
+
+use crate::copies::{entered_by, is_gone};
+use fed_journal::entry::Entry;
+use fed_journal::place::Place;
+use fed_journal::text::Text;
+
+/// Whether the copy was handed out and not freed since.
+fn is_handed_out(journal: &[Entry], copy: u64) -> bool
+    ensures { result ≡ is_some (fold (hold_step copy) None journal.now) }
+{
+    let mut held = false;
+    for entry in journal {
+        if let Entry::Took { copy: taken, .. } = entry && *taken == copy {
+            held = true;
+        }
+    }
+    held
+}
+
+/// Whether the copy is in its queue, and held.
+pub fn is_held(journal: &[Entry], copy: u64) -> bool
+    ensures { result ≡ is_held journal.now copy }
+{
+    !is_gone(journal, copy) && is_handed_out(journal, copy)
+}
+
+/// Whether the copy is in its queue, and not held.
+pub fn is_ready(journal: &[Entry], copy: u64) -> bool
+    ensures { result ≡ is_ready journal.now copy }
+{
+    !is_gone(journal, copy) && !is_held(journal, copy)
+}
+
+/// The copy that the queue would hand out now.
+pub fn first_ready(journal: &[Entry], place: &Place, queue: &Text) -> Option<u64>
+    requires { All IsNumbered journal.now }
+    ensures { result ≡ first_ready journal.now place.now queue.now }
+{
+    journal
+        .iter()
+        .filter_map(|entry| entered_by(entry, place, queue))
+        .find(|copy| is_ready(journal, *copy))
+}
+
+/// How many copies of the queue are ready.
+pub fn ready_count(journal: &[Entry], place: &Place, queue: &Text) -> usize
+    requires { All IsNumbered journal.now }
+    ensures { result ≡ ready_count journal.now place.now queue.now }
+{
+    let mut count = 0;
+    for entry in journal {
+        if let Some(copy) = entered_by(entry, place, queue) && is_ready(journal, copy) {
+            count += 1;
+        }
+    }
+    count
+}
