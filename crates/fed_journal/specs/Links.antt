@@ -24,7 +24,7 @@ abbrev pub start_state : Option Place → Option Place → List ℕ → StartSta
 start_state source target name = if is_none source || is_none target then NoBroker else if nat_lt 230 (length name) then NameTooLong else Start
 
 -- the link of a shovel's parameter (RabbitMQ, Dynamic Shovels)
-abbrev pub spec_of : List Entry → Place → List ℕ → Shovel → LinkSpec
+unfoldable pub spec_of : List Entry → Place → List ℕ → Shovel → LinkSpec
 spec_of J owner name shovel =
     let link = shovel_link_name owner name in
     let source = place_named J (place_at shovel.source owner) in

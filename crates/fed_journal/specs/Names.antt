@@ -1,5 +1,6 @@
 -- When two names are the same.
-use Rattle.std.specs.Prelude.{ℕ, List, Bool, nat_eq, ◌&&◌}
+use Rattle.std.specs.Prelude.{ℕ, List, Bool, nat_eq, ◌&&◌, codes}
+use Rattle.std.specs.List.{starts_with}
 use Rattle.std.specs.Cmp.Lexicographic.{pointwise}
 use Rattle.fed_journal.specs.declared.place.Place.{Place}
 
@@ -10,3 +11,7 @@ same_text a b = pointwise nat_eq a b
 -- the same broker, and the same virtual host of it
 abbrev pub same_place : Place → Place → Bool
 same_place a b = same_text a.broker b.broker && same_text a.vhost b.vhost
+
+-- names that begin so belong to links (RabbitMQ, Federated Exchanges: the upstream queue's name)
+abbrev pub is_reserved : List ℕ → Bool
+is_reserved name = starts_with nat_eq name (codes "federation: ")

@@ -7,5 +7,6 @@ pub mod event;
 pub mod journal;
 pub mod link;
 pub mod message;
+pub mod page;
 pub mod place;
 pub mod text;

@@ -3,6 +3,7 @@ ghost use Rattle.std.specs.Prelude.{◌≡◌, ◌∷◌, List, ℕ, IfOk, OnOk,
 ghost use Rattle.std.specs.Cmp.Lexicographic.{pointwise};
 ghost use Rattle.std.specs.Cmp.Rules.{comparing};
 ghost use Rattle.std.proofs.Common.{rules};
+ghost use Rattle.fed_journal.specs.Names.{is_reserved};
 
 
 use std::alloc::{AllocError, Global};
@@ -136,4 +137,11 @@ impl Names {
     {
         self.inner.as_slice()
     }
+}
+
+/// Whether a name is one that belongs to links.
+pub fn is_reserved(name: &Text) -> bool
+    ensures { result ≡ is_reserved name.now }
+{
+    name.as_str().starts_with("federation: ")
 }

@@ -1,12 +1,13 @@
 //! Which copies are handed out, and which are ready.
-ghost use Rattle.std.specs.Prelude.{◌≡◌, All, fold, is_some, None};
-ghost use Rattle.fed_journal.specs.Copies.{IsNumbered};
+ghost use Rattle.std.specs.Prelude.{◌≡◌, All, IfOk, fold, is_some, None};
+ghost use Rattle.fed_journal.specs.Copies.{IsNumbered, entered};
 ghost use Rattle.fed_journal.specs.Holds.{is_held, is_ready, first_ready, ready_count, hold_step};
 
 use crate::copies::{entered_by, is_gone};
 use fed_journal::entry::Entry;
 use fed_journal::place::Place;
 use fed_journal::text::Text;
+use std::alloc::{AllocError, Global};
 
 /// Whether the copy was handed out and not freed since.
 fn is_handed_out(journal: &[Entry], copy: u64) -> bool
@@ -46,16 +47,22 @@ pub fn first_ready(journal: &[Entry], place: &Place, queue: &Text) -> Option<u64
         .find(|copy| is_ready(journal, *copy))
 }
 
-/// How many copies of the queue are ready.
-pub fn ready_count(journal: &[Entry], place: &Place, queue: &Text) -> usize
+/// Every copy that ever entered the queue, by rising number.
+pub fn entered(alloc: Global, journal: &[Entry], place: &Place, queue: &Text) -> Result<Vec<u64>, AllocError>
     requires { All IsNumbered journal.now }
-    ensures { result ≡ ready_count journal.now place.now queue.now }
+    ensures { IfOk result (λ copies. copies.items ≡ entered journal.now place.now queue.now) }
 {
-    let mut count = 0;
-    for entry in journal {
-        if let Some(copy) = entered_by(entry, place, queue) && is_ready(journal, copy) {
-            count += 1;
-        }
-    }
-    count
+    journal
+        .iter()
+        .filter_map(|entry| entered_by(entry, place, queue))
+        .collect(alloc)
+}
+
+/// How many copies of the queue are ready.
+pub fn ready_count(alloc: Global, journal: &[Entry], place: &Place, queue: &Text) -> Result<usize, AllocError>
+    requires { All IsNumbered journal.now }
+    ensures { IfOk result (λ count. count ≡ ready_count journal.now place.now queue.now) }
+{
+    let copies = entered(alloc, journal, place, queue)?;
+    Ok(copies.iter().filter(|copy| is_ready(journal, **copy)).count())
 }

@@ -5,4 +5,5 @@ pub mod configuration;
 pub mod copies;
 pub mod flight;
 pub mod holds;
+pub mod links;
 pub mod phases;

@@ -1,0 +1,16 @@
+pub mod Accept
+pub mod Confirm
+pub mod Declare
+pub mod Flush
+pub mod Note
+pub mod Open
+pub mod Publish
+pub mod Row
+pub mod RowOf
+pub mod Run
+pub mod Send
+pub mod SetShovel
+pub mod Settle
+pub mod Sound
+pub mod Step
+pub mod Take

@@ -1,0 +1,6 @@
+//! The world of a run: one event after another, each as its rule says.
+#![tactic(auto)]
+
+pub mod reason;
+pub mod row;
+pub mod rows;

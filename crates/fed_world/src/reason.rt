@@ -1,0 +1,43 @@
+//! What a step answers.
+use thiserror::Error;
+
+/// Why an event doesn't happen now.
+#[derive(Clone, Copy)]
+pub enum Reason {
+    /// No such broker or place.
+    NoPlace,
+    /// No configuration asks for such a link.
+    NoLink,
+    /// A URI of the link names no place of the run.
+    NoBroker,
+    /// The link's name has over 230 octets.
+    NameTooLong,
+    /// The link has a session.
+    Live,
+    /// The end that the event needs doesn't live.
+    NotOpen,
+    /// Nothing is there to be handled.
+    Empty,
+    /// No publication that waits is secured.
+    Unsecured,
+    /// The broker refuses with this reply code (AMQP 0-9-1, 1.2).
+    Refused(u16),
+}
+
+/// What became of an event.
+#[derive(Clone, Copy)]
+pub enum Outcome {
+    /// It happened, and appended so many entries.
+    Done(usize),
+    /// It didn't, and nothing changed.
+    NotNow(Reason),
+}
+
+/// Why a step could not be judged. Nothing changed.
+#[derive(Debug, Drop, Error)]
+pub enum StepFault {
+    #[error("over 2,000,000 entries")]
+    Entries,
+    #[error("memory")]
+    Memory,
+}

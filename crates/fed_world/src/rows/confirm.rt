@@ -1,0 +1,60 @@
+//! The target confirms a publication once it is secured.
+ghost use Rattle.std.specs.Prelude.{◌≡◌, All, IfOk, find};
+ghost use Rattle.fed_journal.specs.Copies.{IsNumbered, is_secured};
+ghost use Rattle.fed_world.specs.RowOf.{row_of};
+ghost use Rattle.fed_world.specs.Confirm.{confirm_row, confirm_first};
+
+use crate::reason::Reason;
+use crate::row::{Row, one};
+use fed_journal::entry::Entry;
+use fed_journal::text::Text;
+use journal_scan::copies::is_secured;
+use journal_scan::flight::flight_published;
+use journal_scan::links::link_of;
+use journal_scan::phases::{is_open, session};
+use std::alloc::{AllocError, Global};
+
+/// The first of the publications that is secured.
+fn first_secured(journal: &[Entry], publications: &[u64]) -> Option<u64>
+    requires { All IsNumbered journal.now }
+    ensures { result ≡ find (is_secured journal.now) publications.now }
+{
+    publications
+        .iter()
+        .copied()
+        .find(|publication| is_secured(journal, *publication))
+}
+
+/// The confirm of the first of the publications that is secured, if one waits.
+fn confirm_first(alloc: Global, journal: &[Entry], link: &Text, session: u32, publications: &[u64]) -> Result<Row, AllocError>
+    requires { All IsNumbered journal.now }
+    ensures { IfOk result (λ row. row_of row ≡ confirm_first journal.now link.now session publications.now) }
+{
+    if publications.is_empty() {
+        return Ok(Err(Reason::Empty));
+    }
+    match first_secured(journal, publications) {
+        Some(publication) => {
+            let link = link.clone()?;
+            one(alloc, Entry::Confirmed { link, session, publication })
+        }
+        None => Ok(Err(Reason::Unsecured)),
+    }
+}
+
+/// The row of `confirm`.
+#[tactic(auto, unfolding(crate::specs::Confirm::confirm_row))]
+pub fn confirm_row(alloc: Global, journal: &[Entry], link: &Text) -> Result<Row, AllocError>
+    requires { All IsNumbered journal.now }
+    ensures { IfOk result (λ row. row_of row ≡ confirm_row journal.now link.now) }
+{
+    if link_of(alloc, journal, link)?.is_none() {
+        return Ok(Err(Reason::NoLink));
+    }
+    if !is_open(journal, link) {
+        return Ok(Err(Reason::NotOpen));
+    }
+    let session = session(journal, link);
+    let publications = flight_published(alloc, journal, link, session)?;
+    confirm_first(alloc, journal, link, session, &publications)
+}

@@ -1,0 +1,23 @@
+//! A broker stores what it holds.
+ghost use Rattle.std.specs.Prelude.{◌≡◌, IfOk};
+ghost use Rattle.fed_world.specs.RowOf.{row_of};
+ghost use Rattle.fed_world.specs.Flush.{flush_row};
+
+use crate::reason::Reason;
+use crate::row::{Row, one};
+use fed_journal::entry::Entry;
+use fed_journal::text::Text;
+use journal_scan::configuration::is_broker;
+use std::alloc::{AllocError, Global};
+
+/// The row of `flush`.
+#[tactic(auto, unfolding(crate::specs::Flush::flush_row))]
+pub fn flush_row(alloc: Global, journal: &[Entry], broker: &Text) -> Result<Row, AllocError>
+    ensures { IfOk result (λ row. row_of row ≡ flush_row journal.now broker.now) }
+{
+    if !is_broker(journal, broker) {
+        return Ok(Err(Reason::NoPlace));
+    }
+    let broker = broker.clone()?;
+    one(alloc, Entry::Flushed { broker })
+}

@@ -1,0 +1,35 @@
+//! The link acknowledges the copy whose publication was confirmed first.
+ghost use Rattle.std.specs.Prelude.{◌≡◌, IfOk};
+ghost use Rattle.fed_world.specs.RowOf.{row_of};
+ghost use Rattle.fed_world.specs.Note.{note_row};
+
+use crate::reason::Reason;
+use crate::row::{Row, one};
+use fed_journal::entry::Entry;
+use fed_journal::text::Text;
+use journal_scan::flight::flight_confirmed;
+use journal_scan::links::link_of;
+use journal_scan::phases::{is_open, session};
+use std::alloc::{AllocError, Global};
+
+
+/// The row of `note`.
+#[tactic(auto, unfolding(crate::specs::Note::note_row))]
+pub fn note_row(alloc: Global, journal: &[Entry], link: &Text) -> Result<Row, AllocError>
+    ensures { IfOk result (λ row. row_of row ≡ note_row journal.now link.now) }
+{
+    if link_of(alloc, journal, link)?.is_none() {
+        return Ok(Err(Reason::NoLink));
+    }
+    if !is_open(journal, link) {
+        return Ok(Err(Reason::NotOpen));
+    }
+    let session = session(journal, link);
+    match flight_confirmed(alloc, journal, link, session)?.first() {
+        Some(copy) => {
+            let link = link.clone()?;
+            one(alloc, Entry::Noted { link, session, copy: *copy })
+        }
+        None => Ok(Err(Reason::Empty)),
+    }
+}

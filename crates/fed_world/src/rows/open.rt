@@ -1,0 +1,90 @@
+//! A link connects to both ends.
+ghost use Rattle.std.specs.Prelude.{◌≡◌, ◌+◌, ◌<◌, ◌^◌, ◌++◌, IfOk, OnOk};
+ghost use Rattle.fed_journal.specs.Phases.{session};
+ghost use Rattle.fed_world.specs.RowOf.{row_of};
+ghost use Rattle.fed_world.specs.Sound.{IsSound};
+ghost use Rattle.fed_world.specs.Open.{open_row, open_if_startable, opened, made_if, is_target_missing};
+
+use crate::reason::Reason;
+use crate::row::Row;
+use crate::rows::declare::{LASTING, stands};
+use fed_journal::entry::Entry;
+use fed_journal::link::{LinkSpec, StartState};
+use fed_journal::place::Place;
+use fed_journal::text::Text;
+use journal_scan::holds::ready_count;
+use journal_scan::links::link_of;
+use journal_scan::phases::{is_open, session};
+use std::alloc::{AllocError, Global};
+
+/// Appends the queue's declaration, where it is missing.
+fn push_made(missing: bool, place: &Place, queue: &Text, entries: &mut Vec<Entry>) -> Result<(), AllocError>
+    ensures { OnOk result (entries.new.items ≡ entries.old.items ++ made_if missing place.now queue.now) }
+{
+    if missing {
+        let place = place.clone()?;
+        let queue = queue.clone()?;
+        entries.push(Entry::MadeQueue {
+            place,
+            queue,
+            options: LASTING,
+        })?;
+    }
+    Ok(())
+}
+
+/// Whether the target's queue has to be made beside the source's.
+fn is_target_missing(journal: &[Entry], spec: &LinkSpec, source: &Place, target: &Place) -> bool
+    ensures { result ≡ is_target_missing journal.now spec.now source.now target.now }
+{
+    !(stands(journal, target, &spec.target_queue) || (target == source && spec.target_queue == spec.source_queue))
+}
+
+/// What a session's beginning appends.
+fn opened(alloc: Global, journal: &[Entry], spec: &LinkSpec) -> Result<Row, AllocError>
+    requires { IsSound journal.now }
+    ensures { IfOk result (λ row. row_of row ≡ opened journal.now spec.now spec.now.source spec.now.target) }
+{
+    let (Some(source), Some(target)) = (&spec.source, &spec.target) else {
+        return Ok(Err(Reason::NoBroker));
+    };
+    let mut entries = Vec::new(alloc);
+    push_made(!stands(journal, source, &spec.source_queue), source, &spec.source_queue, &mut entries)?;
+    push_made(is_target_missing(journal, spec, source, target), target, &spec.target_queue, &mut entries)?;
+    let ready = ready_count(alloc, journal, source, &spec.source_queue)? as u64;
+    entries.push(Entry::Opened {
+        link: spec.name.clone()?,
+        session: session(journal, &spec.name) + 1,
+        ready,
+    })?;
+    Ok(Ok(entries))
+}
+
+/// The row of `open` for a link by its start state.
+fn open_if_startable(alloc: Global, journal: &[Entry], spec: &LinkSpec) -> Result<Row, AllocError>
+    requires { IsSound journal.now }
+    ensures { IfOk result (λ row. row_of row ≡ open_if_startable journal.now spec.now spec.now.start) }
+{
+    match spec.start {
+        StartState::NoBroker => Ok(Err(Reason::NoBroker)),
+        StartState::NameTooLong => Ok(Err(Reason::NameTooLong)),
+        StartState::Start => {
+            if is_open(journal, &spec.name) {
+                return Ok(Err(Reason::Live));
+            }
+            opened(alloc, journal, spec)
+        }
+    }
+}
+
+/// The row of `open`.
+#[tactic(auto, unfolding(crate::specs::Open::open_row))]
+pub fn open_row(alloc: Global, journal: &[Entry], link: &Text) -> Result<Row, AllocError>
+    requires { IsSound journal.now }
+    ensures { IfOk result (λ row. row_of row ≡ open_row journal.now link.now) }
+{
+    match link_of(alloc, journal, link)? {
+        Some(spec) => open_if_startable(alloc, journal, &spec),
+        None => Ok(Err(Reason::NoLink)),
+    }
+}

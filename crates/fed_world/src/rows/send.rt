@@ -1,0 +1,35 @@
+//! The link sends on the message of the copy that it took first.
+ghost use Rattle.std.specs.Prelude.{◌≡◌, IfOk};
+ghost use Rattle.fed_world.specs.RowOf.{row_of};
+ghost use Rattle.fed_world.specs.Send.{send_row};
+
+use crate::reason::Reason;
+use crate::row::{Row, one};
+use fed_journal::entry::Entry;
+use fed_journal::text::Text;
+use journal_scan::flight::flight_took;
+use journal_scan::links::link_of;
+use journal_scan::phases::{is_open, session};
+use std::alloc::{AllocError, Global};
+
+
+/// The row of `send`.
+#[tactic(auto, unfolding(crate::specs::Send::send_row))]
+pub fn send_row(alloc: Global, journal: &[Entry], link: &Text) -> Result<Row, AllocError>
+    ensures { IfOk result (λ row. row_of row ≡ send_row journal.now link.now) }
+{
+    if link_of(alloc, journal, link)?.is_none() {
+        return Ok(Err(Reason::NoLink));
+    }
+    if !is_open(journal, link) {
+        return Ok(Err(Reason::NotOpen));
+    }
+    let session = session(journal, link);
+    match flight_took(alloc, journal, link, session)?.first() {
+        Some(copy) => {
+            let link = link.clone()?;
+            one(alloc, Entry::Sent { link, session, copy: *copy })
+        }
+        None => Ok(Err(Reason::Empty)),
+    }
+}

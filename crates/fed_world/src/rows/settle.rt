@@ -1,0 +1,35 @@
+//! The source removes the copy that the link acknowledged first.
+ghost use Rattle.std.specs.Prelude.{◌≡◌, IfOk};
+ghost use Rattle.fed_world.specs.RowOf.{row_of};
+ghost use Rattle.fed_world.specs.Settle.{settle_row};
+
+use crate::reason::Reason;
+use crate::row::{Row, one};
+use fed_journal::entry::Entry;
+use fed_journal::text::Text;
+use journal_scan::flight::flight_noted;
+use journal_scan::links::link_of;
+use journal_scan::phases::{is_open, session};
+use std::alloc::{AllocError, Global};
+
+
+/// The row of `settle`.
+#[tactic(auto, unfolding(crate::specs::Settle::settle_row))]
+pub fn settle_row(alloc: Global, journal: &[Entry], link: &Text) -> Result<Row, AllocError>
+    ensures { IfOk result (λ row. row_of row ≡ settle_row journal.now link.now) }
+{
+    if link_of(alloc, journal, link)?.is_none() {
+        return Ok(Err(Reason::NoLink));
+    }
+    if !is_open(journal, link) {
+        return Ok(Err(Reason::NotOpen));
+    }
+    let session = session(journal, link);
+    match flight_noted(alloc, journal, link, session)?.first() {
+        Some(copy) => {
+            let link = link.clone()?;
+            one(alloc, Entry::Settled { link, session, copy: *copy })
+        }
+        None => Ok(Err(Reason::Empty)),
+    }
+}
