@@ -16,7 +16,7 @@ abbrev pub is_broker : List Entry → List ℕ → Bool
 is_broker J b = list_any (begins b) J
 
 -- a broker has the virtual host `/` (RabbitMQ, Virtual Hosts)
-abbrev pub is_place : List Entry → Place → Bool
+unfoldable pub is_place : List Entry → Place → Bool
 is_place J p = same_text p.vhost (codes "/") && is_broker J p.broker
 
 -- a queue stands from its declaration on (AMQP 0-9-1, queue.declare)
@@ -24,5 +24,5 @@ abbrev pub options_step : Place → List ℕ → Option QueueOptions → Entry �
 options_step p q was (MadeQueue place queue options) = if same_place place p && same_text queue q then Some options else was
 options_step p q was _ = was
 
-abbrev pub queue_options : List Entry → Place → List ℕ → Option QueueOptions
+unfoldable pub queue_options : List Entry → Place → List ℕ → Option QueueOptions
 queue_options J p q = fold (options_step p q) None J

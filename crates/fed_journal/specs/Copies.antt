@@ -18,10 +18,10 @@ abbrev pub copies_made : Entry → ℕ
 copies_made (Published x) = length x.queues
 copies_made _ = 0
 
-abbrev pub publication_count : List Entry → ℕ
+unfoldable pub publication_count : List Entry → ℕ
 publication_count J = count_by is_publication J
 
-abbrev pub copy_count : List Entry → ℕ
+unfoldable pub copy_count : List Entry → ℕ
 copy_count J = sum_by copies_made J
 
 -- a publication goes into fewer than 2^32 queues
@@ -39,7 +39,7 @@ entered_by p q (Published x) = if same_place x.place p then option_map (λ k. x.
 entered_by p q _ = None
 
 -- every copy that ever entered the queue, by rising number
-abbrev pub entered : List Entry → Place → List ℕ → List ℕ
+unfoldable pub entered : List Entry → Place → List ℕ → List ℕ
 entered J p q = filter_map (entered_by p q) J
 
 -- the copy is one of the publication's
@@ -91,11 +91,11 @@ is_flushed_from J None = false
 is_flushed_from J (Some i) = is_flushed_in (drop (i + 1) J) (publication_in (slice_get J i))
 
 -- a persistent message in a lasting queue (RabbitMQ, Publisher Confirms: persistent messages)
-abbrev pub must_be_stored : List Entry → ℕ → Bool
+unfoldable pub must_be_stored : List Entry → ℕ → Bool
 must_be_stored J c = must_be_stored_from J c (position (enters c) J)
 
 -- a copy is stored when its message is persistent, its queue is lasting and its broker flushed after it entered
-abbrev pub is_stored : List Entry → ℕ → Bool
+unfoldable pub is_stored : List Entry → ℕ → Bool
 is_stored J c = must_be_stored J c && is_flushed_from J (position (enters c) J)
 
 -- the copy leaves its queue otherwise than by loss: a link's acknowledgement removes it (AMQP 0-9-1, basic.ack)
@@ -103,7 +103,7 @@ abbrev pub releases : ℕ → Entry → Bool
 releases c (Settled l s copy) = copy == c
 releases c _ = false
 
-abbrev pub is_released : List Entry → ℕ → Bool
+unfoldable pub is_released : List Entry → ℕ → Bool
 is_released J c = list_any (releases c) J
 
 -- the copy has left its queue
@@ -121,17 +121,17 @@ abbrev pub is_secured_at : List Entry → Option Publication → Bool
 is_secured_at J None = false
 is_secured_at J (Some x) = list_all (is_copy_secured J) (numbers_from x.first x.queues)
 
-abbrev pub find_publication : ℕ → List Entry → Option Publication
+unfoldable pub find_publication : ℕ → List Entry → Option Publication
 find_publication p [] = None
 find_publication p (Published x ∷ J) = if x.number == p then Some x else find_publication p J
 find_publication p (_ ∷ J) = find_publication p J
 
 -- each of its copies that is persistent and in a lasting queue is stored, or has left its queue otherwise than by loss
-abbrev pub is_secured : List Entry → ℕ → Bool
+unfoldable pub is_secured : List Entry → ℕ → Bool
 is_secured J p = is_secured_at J (find_publication p J)
 
 -- the publication that the copy belongs to
-abbrev pub publication_of : ℕ → List Entry → Option Publication
+unfoldable pub publication_of : ℕ → List Entry → Option Publication
 publication_of c [] = None
 publication_of c (Published x ∷ J) = if is_copy_of x c then Some x else publication_of c J
 publication_of c (_ ∷ J) = publication_of c J

@@ -78,21 +78,21 @@ abbrev pub confirmed_copy : List Entry → List ℕ → ℕ → Entry → Option
 confirmed_copy J l s e = copy_from J l s (confirmed_to l s e)
 
 -- taken and not sent on
-abbrev pub flight_took : List Entry → List ℕ → ℕ → List ℕ
+unfoldable pub flight_took : List Entry → List ℕ → ℕ → List ℕ
 flight_took J l s = filter (λ c. not (has (sent_by l s) c J)) (filter_map (taken_by l s) J)
 
 -- sent on and not published
-abbrev pub flight_sent : List Entry → List ℕ → ℕ → List ℕ
+unfoldable pub flight_sent : List Entry → List ℕ → ℕ → List ℕ
 flight_sent J l s = filter (λ c. not (has (published_from l s) c J)) (filter_map (sent_by l s) J)
 
 -- published and not confirmed: publications
-abbrev pub flight_published : List Entry → List ℕ → ℕ → List ℕ
+unfoldable pub flight_published : List Entry → List ℕ → ℕ → List ℕ
 flight_published J l s = filter (λ p. not (has (confirmed_to l s) p J)) (filter_map (published_by l s) J)
 
 -- confirmed and not acknowledged by the link: what it acknowledges next
-abbrev pub flight_confirmed : List Entry → List ℕ → ℕ → List ℕ
+unfoldable pub flight_confirmed : List Entry → List ℕ → ℕ → List ℕ
 flight_confirmed J l s = filter (λ c. not (has (noted_by l s) c J)) (filter_map (confirmed_copy J l s) J)
 
 -- acknowledged and not removed at the source
-abbrev pub flight_noted : List Entry → List ℕ → ℕ → List ℕ
+unfoldable pub flight_noted : List Entry → List ℕ → ℕ → List ℕ
 flight_noted J l s = filter (λ c. not (has (settled_for l s) c J)) (filter_map (noted_by l s) J)

@@ -14,7 +14,7 @@ hold_step c was (Took link session copy) = if copy == c then Some (Session link 
 hold_step c was _ = was
 
 -- a copy is held, unacknowledged, by whom it was last handed to, while it is in its queue (RabbitMQ, Consumer Acknowledgements)
-abbrev pub holder : List Entry → ℕ → Option Holder
+unfoldable pub holder : List Entry → ℕ → Option Holder
 holder J c = if is_gone J c then None else fold (hold_step c) None J
 
 abbrev pub is_held : List Entry → ℕ → Bool
@@ -25,9 +25,9 @@ abbrev pub is_ready : List Entry → ℕ → Bool
 is_ready J c = not (is_gone J c) && not (is_held J c)
 
 -- what the queue would hand out now: its ready copy of the least number
-abbrev pub first_ready : List Entry → Place → List ℕ → Option ℕ
+unfoldable pub first_ready : List Entry → Place → List ℕ → Option ℕ
 first_ready J p q = find (is_ready J) (entered J p q)
 
 -- how many copies of the queue are ready
-abbrev pub ready_count : List Entry → Place → List ℕ → ℕ
+unfoldable pub ready_count : List Entry → Place → List ℕ → ℕ
 ready_count J p q = count_by (is_ready J) (entered J p q)

@@ -44,14 +44,14 @@ links_of_broker J (Begun broker cluster kept) = flat_map (links_set_by J broker)
 links_of_broker J _ = []
 
 -- the links by the order of their owners' brokers, then of setting
-abbrev pub links_of : List Entry → List LinkSpec
+unfoldable pub links_of : List Entry → List LinkSpec
 links_of J = flat_map (links_of_broker J) J
 
 abbrev pub is_named : List ℕ → LinkSpec → Bool
 is_named l spec = same_text spec.name l
 
 -- the link of that name
-abbrev pub link_of : List Entry → List ℕ → Option LinkSpec
+unfoldable pub link_of : List Entry → List ℕ → Option LinkSpec
 link_of J l = find (is_named l) (links_of J)
 
 abbrev pub sets_shovel : Place → List ℕ → Entry → Bool
@@ -59,5 +59,5 @@ sets_shovel p name (ShovelSet place other shovel) = same_place place p && same_t
 sets_shovel p name _ = false
 
 -- whether the place has a shovel of that name
-abbrev pub is_shovel_set : List Entry → Place → List ℕ → Bool
+unfoldable pub is_shovel_set : List Entry → Place → List ℕ → Bool
 is_shovel_set J p name = list_any (sets_shovel p name) J

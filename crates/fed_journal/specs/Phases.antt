@@ -12,7 +12,7 @@ session_step l was (Opened link session ready) = if same_text link l then sessio
 session_step l was _ = was
 
 -- the number of the last session, 0 if there is none
-abbrev pub session : List Entry → List ℕ → ℕ
+unfoldable pub session : List Entry → List ℕ → ℕ
 session J l = fold (session_step l) 0 J
 
 abbrev pub phase_step : List ℕ → Phase → Entry → Phase
@@ -20,7 +20,7 @@ phase_step l was (Opened link session ready) = if same_text link l then Open els
 phase_step l was _ = was
 
 -- which ends of the last session live
-abbrev pub phase : List Entry → List ℕ → Phase
+unfoldable pub phase : List Entry → List ℕ → Phase
 phase J l = fold (phase_step l) Gone J
 
 abbrev pub is_open : Phase → Bool

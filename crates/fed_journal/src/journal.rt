@@ -48,6 +48,7 @@ impl Model for Journal {
 
 impl Journal {
     /// A journal without entries.
+    #[tactic(auto, unfolding(crate::specs::Copies::publication_count, crate::specs::Copies::copy_count))]
     pub fn new(alloc: Global) -> Self
         ensures { result.entries ≡ [] }
     {
@@ -98,6 +99,7 @@ impl Journal {
     }
 
     /// Appends an entry. Takes no memory.
+    #[tactic(auto, unfolding(crate::specs::Copies::publication_count, crate::specs::Copies::copy_count))]
     pub fn push(&mut self, entry: Entry)
         requires room { 0 < self.old.room }
         requires queues { HasFewQueues entry }

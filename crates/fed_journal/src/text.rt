@@ -3,6 +3,7 @@ ghost use Rattle.std.specs.Prelude.{◌≡◌, ◌∷◌, List, ℕ, IfOk, OnOk,
 ghost use Rattle.std.specs.Cmp.Lexicographic.{pointwise};
 ghost use Rattle.std.specs.Cmp.Rules.{comparing};
 ghost use Rattle.std.proofs.Common.{rules};
+ghost use Rattle.std.specs.List.{starts_with};
 ghost use Rattle.fed_journal.specs.Names.{is_reserved};
 
 
@@ -139,9 +140,16 @@ impl Names {
     }
 }
 
+/// Whether the name begins with these octets.
+pub fn begins_with(name: &Text, prefix: &[u8]) -> bool
+    ensures { result ≡ starts_with nat_eq name.now prefix.now }
+{
+    name.as_str().as_bytes().starts_with(prefix)
+}
+
 /// Whether a name is one that belongs to links.
 pub fn is_reserved(name: &Text) -> bool
     ensures { result ≡ is_reserved name.now }
 {
-    name.as_str().starts_with("federation: ")
+    begins_with(name, b"federation: ")
 }

@@ -14,6 +14,7 @@ pub fn is_broker(journal: &[Entry], broker: &Text) -> bool
 }
 
 /// Whether the run has this place.
+#[tactic(auto, unfolding(fed_journal::specs::Configuration::is_place))]
 pub fn is_place(journal: &[Entry], place: &Place) -> bool
     ensures { result ≡ is_place journal.now place.now }
 {
@@ -21,6 +22,7 @@ pub fn is_place(journal: &[Entry], place: &Place) -> bool
 }
 
 /// The options of the queue, if it stands.
+#[tactic(auto, unfolding(fed_journal::specs::Configuration::queue_options))]
 pub fn queue_options(journal: &[Entry], place: &Place, queue: &Text) -> Option<QueueOptions>
     ensures { result ≡ queue_options journal.now place.now queue.now }
 {

@@ -53,6 +53,7 @@ pub fn enters(entry: &Entry, copy: u64) -> bool
 }
 
 /// Whether the copy has left its queue otherwise than by loss.
+#[tactic(auto, unfolding(fed_journal::specs::Copies::is_released))]
 pub fn is_released(journal: &[Entry], copy: u64) -> bool
     ensures { result ≡ is_released journal.now copy }
 {
@@ -79,6 +80,7 @@ pub fn is_lasting(options: Option<QueueOptions>) -> bool
 }
 
 /// The publication of that number.
+#[tactic(auto, unfolding(fed_journal::specs::Copies::find_publication))]
 pub fn find_publication(journal: &[Entry], number: u64) -> Option<&Publication>
     ensures found { option_copied result ≡ find_publication number journal.now }
     ensures numbered { All IsNumbered journal.now → IfSome result (λ x. x.now.first + length x.now.queues < 2 ^ 64) }
@@ -92,6 +94,7 @@ pub fn find_publication(journal: &[Entry], number: u64) -> Option<&Publication>
 }
 
 /// The publication that the copy belongs to.
+#[tactic(auto, unfolding(fed_journal::specs::Copies::publication_of))]
 pub fn publication_of(journal: &[Entry], copy: u64) -> Option<&Publication>
     ensures { option_copied result ≡ publication_of copy journal.now }
 {
@@ -156,6 +159,7 @@ fn must_be_stored_at(before: &[Entry], publication: &Publication, copy: u64) -> 
 }
 
 /// Whether the copy's message is persistent and its queue is lasting.
+#[tactic(auto, unfolding(fed_journal::specs::Copies::must_be_stored))]
 pub fn must_be_stored(journal: &[Entry], copy: u64) -> bool
     ensures { result ≡ must_be_stored journal.now copy }
 {
@@ -182,6 +186,7 @@ fn is_flushed_since(journal: &[Entry], copy: u64) -> bool
 }
 
 /// Whether the copy is stored.
+#[tactic(auto, unfolding(fed_journal::specs::Copies::is_stored))]
 pub fn is_stored(journal: &[Entry], copy: u64) -> bool
     ensures { result ≡ is_stored journal.now copy }
 {
@@ -211,6 +216,7 @@ fn are_copies_secured(journal: &[Entry], first: u64, queues: &[Text]) -> bool
 }
 
 /// Whether the publication is secured.
+#[tactic(auto, unfolding(fed_journal::specs::Copies::is_secured))]
 pub fn is_secured(journal: &[Entry], publication: u64) -> bool
     requires { All IsNumbered journal.now }
     ensures { result ≡ is_secured journal.now publication }

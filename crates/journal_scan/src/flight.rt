@@ -168,6 +168,7 @@ fn is_settled(journal: &[Entry], link: &Text, session: u32, copy: u64) -> bool
 }
 
 /// The copies taken and not sent on, in the order of taking.
+#[tactic(auto, unfolding(fed_journal::specs::Flight::flight_took))]
 pub fn flight_took(alloc: Global, journal: &[Entry], link: &Text, session: u32) -> Result<Vec<u64>, AllocError>
     ensures { IfOk result (λ list. list.items ≡ flight_took journal.now link.now session) }
 {
@@ -179,6 +180,7 @@ pub fn flight_took(alloc: Global, journal: &[Entry], link: &Text, session: u32) 
 }
 
 /// The copies sent on and not published, in the order of sending.
+#[tactic(auto, unfolding(fed_journal::specs::Flight::flight_sent))]
 pub fn flight_sent(alloc: Global, journal: &[Entry], link: &Text, session: u32) -> Result<Vec<u64>, AllocError>
     ensures { IfOk result (λ list. list.items ≡ flight_sent journal.now link.now session) }
 {
@@ -190,6 +192,7 @@ pub fn flight_sent(alloc: Global, journal: &[Entry], link: &Text, session: u32) 
 }
 
 /// The publications that are not confirmed, in their order.
+#[tactic(auto, unfolding(fed_journal::specs::Flight::flight_published))]
 pub fn flight_published(alloc: Global, journal: &[Entry], link: &Text, session: u32) -> Result<Vec<u64>, AllocError>
     ensures { IfOk result (λ list. list.items ≡ flight_published journal.now link.now session) }
 {
@@ -201,6 +204,7 @@ pub fn flight_published(alloc: Global, journal: &[Entry], link: &Text, session: 
 }
 
 /// The copies whose publication is confirmed and that the link has not acknowledged, in the order of confirms.
+#[tactic(auto, unfolding(fed_journal::specs::Flight::flight_confirmed))]
 pub fn flight_confirmed(alloc: Global, journal: &[Entry], link: &Text, session: u32) -> Result<Vec<u64>, AllocError>
     ensures { IfOk result (λ list. list.items ≡ flight_confirmed journal.now link.now session) }
 {
@@ -212,6 +216,7 @@ pub fn flight_confirmed(alloc: Global, journal: &[Entry], link: &Text, session: 
 }
 
 /// The copies acknowledged and not removed, in the order of acknowledgements.
+#[tactic(auto, unfolding(fed_journal::specs::Flight::flight_noted))]
 pub fn flight_noted(alloc: Global, journal: &[Entry], link: &Text, session: u32) -> Result<Vec<u64>, AllocError>
     ensures { IfOk result (λ list. list.items ≡ flight_noted journal.now link.now session) }
 {

@@ -23,6 +23,7 @@ fn is_handed_out(journal: &[Entry], copy: u64) -> bool
 }
 
 /// Whether the copy is in its queue, and held.
+#[tactic(auto, unfolding(fed_journal::specs::Holds::holder))]
 pub fn is_held(journal: &[Entry], copy: u64) -> bool
     ensures { result ≡ is_held journal.now copy }
 {
@@ -37,6 +38,7 @@ pub fn is_ready(journal: &[Entry], copy: u64) -> bool
 }
 
 /// The copy that the queue would hand out now.
+#[tactic(auto, unfolding(fed_journal::specs::Holds::first_ready, fed_journal::specs::Copies::entered))]
 pub fn first_ready(journal: &[Entry], place: &Place, queue: &Text) -> Option<u64>
     requires { All IsNumbered journal.now }
     ensures { result ≡ first_ready journal.now place.now queue.now }
@@ -48,6 +50,7 @@ pub fn first_ready(journal: &[Entry], place: &Place, queue: &Text) -> Option<u64
 }
 
 /// Every copy that ever entered the queue, by rising number.
+#[tactic(auto, unfolding(fed_journal::specs::Copies::entered))]
 pub fn entered(alloc: Global, journal: &[Entry], place: &Place, queue: &Text) -> Result<Vec<u64>, AllocError>
     requires { All IsNumbered journal.now }
     ensures { IfOk result (λ copies. copies.items ≡ entered journal.now place.now queue.now) }
@@ -59,6 +62,7 @@ pub fn entered(alloc: Global, journal: &[Entry], place: &Place, queue: &Text) ->
 }
 
 /// How many copies of the queue are ready.
+#[tactic(auto, unfolding(fed_journal::specs::Holds::ready_count))]
 pub fn ready_count(alloc: Global, journal: &[Entry], place: &Place, queue: &Text) -> Result<usize, AllocError>
     requires { All IsNumbered journal.now }
     ensures { IfOk result (λ count. count ≡ ready_count journal.now place.now queue.now) }

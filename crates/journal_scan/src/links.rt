@@ -90,6 +90,7 @@ fn push_links_of_broker(alloc: Global, journal: &[Entry], entry: &Entry, links: 
 }
 
 /// The links by the order of their owners' brokers, then of setting.
+#[tactic(auto, unfolding(fed_journal::specs::Links::links_of))]
 pub fn links_of(alloc: Global, journal: &[Entry]) -> Result<Vec<LinkSpec>, AllocError>
     ensures { IfOk result (λ links. links.items ≡ links_of journal.now) }
 {
@@ -101,6 +102,7 @@ pub fn links_of(alloc: Global, journal: &[Entry]) -> Result<Vec<LinkSpec>, Alloc
 }
 
 /// The link of that name.
+#[tactic(auto, unfolding(fed_journal::specs::Links::link_of))]
 pub fn link_of(alloc: Global, journal: &[Entry], link: &Text) -> Result<Option<LinkSpec>, AllocError>
     ensures { IfOk result (λ spec. spec ≡ link_of journal.now link.now) }
 {
@@ -109,6 +111,7 @@ pub fn link_of(alloc: Global, journal: &[Entry], link: &Text) -> Result<Option<L
 }
 
 /// Whether the place has a shovel of that name.
+#[tactic(auto, unfolding(fed_journal::specs::Links::is_shovel_set))]
 pub fn is_shovel_set(journal: &[Entry], place: &Place, name: &Text) -> bool
     ensures { result ≡ is_shovel_set journal.now place.now name.now }
 {

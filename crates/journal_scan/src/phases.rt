@@ -7,6 +7,7 @@ use fed_journal::link::Phase;
 use fed_journal::text::Text;
 
 /// The number of the link's last session, 0 before the first.
+#[tactic(auto, unfolding(fed_journal::specs::Phases::session))]
 pub fn session(journal: &[Entry], link: &Text) -> u32
     ensures { result ≡ session journal.now link.now }
 {
@@ -20,6 +21,7 @@ pub fn session(journal: &[Entry], link: &Text) -> u32
 }
 
 /// What is left of the link's last session.
+#[tactic(auto, unfolding(fed_journal::specs::Phases::phase))]
 pub fn phase(journal: &[Entry], link: &Text) -> Phase
     ensures { result ≡ phase journal.now link.now }
 {

@@ -7,7 +7,7 @@ use crate::reason::Reason;
 use crate::row::{Row, nothing, one};
 use fed_journal::entry::Entry;
 use fed_journal::place::{Place, QueueOptions};
-use fed_journal::text::{Text, is_reserved};
+use fed_journal::text::{Text, begins_with, is_reserved};
 use journal_scan::configuration::{is_place, queue_options};
 use std::alloc::{AllocError, Global};
 
@@ -26,10 +26,10 @@ pub(crate) fn stands(journal: &[Entry], place: &Place, queue: &Text) -> bool
 }
 
 /// Whether the name is one of the broker's own, other than a generated one.
-fn is_broker_name(queue: &str) -> bool
+fn is_broker_name(queue: &Text) -> bool
     ensures { result ≡ is_broker_name queue.now }
 {
-    queue.starts_with("amq.") && !queue.starts_with("amq.gen-")
+    begins_with(queue, b"amq.") && !begins_with(queue, b"amq.gen-")
 }
 
 /// Whether the broker refuses a client to declare a queue of that name.
@@ -38,7 +38,7 @@ fn is_refused(journal: &[Entry], place: &Place, queue: &Text) -> bool
 {
     queue.as_str().is_empty()
         || is_reserved(queue)
-        || (is_broker_name(queue.as_str()) && !stands(journal, place, queue))
+        || (is_broker_name(queue) && !stands(journal, place, queue))
 }
 
 /// The row of `declare`.
