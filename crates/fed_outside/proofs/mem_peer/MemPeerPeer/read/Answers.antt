@@ -1,0 +1,18 @@
+use Rattle.std.proofs.Common.{◌≡◌, false, Some, ap}
+use Rattle.fed_outside.specs.Outside.{Traffic}
+use Rattle.fed_outside.specs.Plan.{judged}
+use Rattle.fed_outside.proofs.Prefixes.{read_on, peer_read_on}
+use Rattle.fed_outside.proofs.mem_peer.MemPeerPeer.read.Goals as goal
+
+pub returns-clause-after : goal.returns-clause-after
+returns-clause-after c =
+    let counted : c.count.new.self ≡ judged false c.self.inside.plan = rw c.if-is_fault.false at c.count.ensures.after in
+    rw (← c.self.view_is)
+    (peer_read_on c.self.inside.at c.copy_front-n.result c.self.inside.room c.self.inside.input.items c.self.inside.written.items
+    c.self.inside.plan c.count.new.self counted)
+
+pub returns-clause-advanced : goal.returns-clause-advanced
+returns-clause-advanced c =
+    rw (← c.self.view_is)
+    (ap (λ (t : Traffic). Some t)
+    (read_on c.self.inside.at c.copy_front-n.result c.self.inside.input.items c.self.inside.written.items))
