@@ -40,7 +40,8 @@ sink_after sink piece =
     record {
       octets = sink.octets ++ take (most_out (planned sink.plan) room) piece;
       room = sink.room;
-      plan = judged (is_fault (planned sink.plan) room piece) sink.plan }
+      plan = judged (is_fault (planned sink.plan) room piece) sink.plan;
+    }
 
 -- a peer in memory: its octets, and how many may be written to it in all
 pub record PeerState : Type 0 where
@@ -59,7 +60,8 @@ peer_after_write peer piece =
     record {
       traffic = written_on (take (most_out (planned peer.plan) room) piece) peer.traffic;
       room = peer.room;
-      plan = judged (is_fault (planned peer.plan) room piece) peer.plan }
+      plan = judged (is_fault (planned peer.plan) room piece) peer.plan;
+    }
 
 -- No call of the peer failed, and no octet went to it or came from it.
 pub record IsFresh (peer : PeerState) : Type 0 where
@@ -86,4 +88,5 @@ door_after_back door peer = record {
   given_back = door.given_back ++ peer ∷ [];
   out = door.out - 1;
   peer_faults = if nat_lt 0 peer.plan.faults then raised door.peer_faults else door.peer_faults;
-  plan = door.plan }
+  plan = door.plan;
+}

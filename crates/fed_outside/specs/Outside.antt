@@ -47,7 +47,8 @@ abbrev pub advanced : ℕ → Traffic → Traffic
 advanced n traffic = record {
   read = traffic.read ++ take n traffic.left;
   left = drop n traffic.left;
-  written = traffic.written }
+  written = traffic.written;
+}
 
 -- these octets are written behind those written before
 abbrev pub written_on : List ℕ → Traffic → Traffic

@@ -61,8 +61,6 @@ impl<R: Files + Drop> Shelf for FileShelf<R> {
         ensures no_fault { result ≢ Loaded.Failed → self.new ≡ self.old }
 
         ensures bounded { IfBytes result (λ bytes. length bytes ≤ most) }
-        ensures answers { Answers None name.now most result }
-        ensures failed { result ≡ Loaded.Failed → Rose self.old self.new }
         ensures later { self.old ≤ self.new }
     {
         match read_past(&self.files, alloc, name, most) {

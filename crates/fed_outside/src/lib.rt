@@ -25,3 +25,6 @@ pub use plan::FailingCall;
 pub use shelf::{Loaded, Shelf};
 pub use sink::Sink;
 pub use std_sink::StdSink;
+
+#[cfg(test)]
+mod tests;

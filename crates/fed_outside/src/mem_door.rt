@@ -30,30 +30,37 @@ impl Model for MemDoor {
     ghost Value = { DoorState };
 
     ghost view = { λ d. record {
-        waiting = d.waiting.items;
-        given_back = d.given_back.items;
-        out = d.out;
-        peer_faults = d.peer_faults;
-        plan = d.plan } };
+      waiting = d.waiting.items;
+      given_back = d.given_back.items;
+      out = d.out;
+      peer_faults = d.peer_faults;
+      plan = d.plan;
+    } };
 
     ghost invariant = { λ d. record {
-        fresh : All IsFresh d.waiting.items;
-        room : vec_len d.given_back + d.out + deque_len d.waiting ≤ vec_capacity d.given_back;
-        peer_faults : d.peer_faults < 2 ^ 64 } };
+      fresh : All IsFresh d.waiting.items;
+      room : vec_len d.given_back + d.out + deque_len d.waiting ≤ vec_capacity d.given_back;
+      peer_faults : d.peer_faults < 2 ^ 64;
+    } };
 }
 
 impl MemDoor {
     ghost use Rattle.fed_outside.specs.Fakes.{IsFresh};
 
     /// A door that has these peers to give.
-    pub fn new(alloc: Global, peers: Vec<MemPeer>, failing: Vec<FailingCall>) -> Result<Self, AllocError>
+    pub fn new(
+        alloc: Global,
+        peers: Vec<MemPeer>,
+        failing: Vec<FailingCall>,
+    ) -> Result<Self, AllocError>
         requires { All IsFresh peers.items }
         ensures { IfOk result (λ door. door ≡ record {
-            waiting = peers.items;
-            given_back = [];
-            out = 0;
-            peer_faults = 0;
-            plan = record { failing = failing.items; calls = 0; faults = 0 } }) }
+          waiting = peers.items;
+          given_back = [];
+          out = 0;
+          peer_faults = 0;
+          plan = record { failing = failing.items; calls = 0; faults = 0 };
+        }) }
     {
         Ok(MemDoor {
             given_back: Vec::with_capacity(alloc, peers.len())?,
@@ -103,11 +110,7 @@ impl Door for MemDoor {
         ensures fault { result ≡ not (is_some (planned self.old.plan)) }
         ensures after { self.new ≡ record self.old { plan = judged (is_some (planned self.old.plan)) self.old.plan } }
 
-        ensures failed { OnFalse result (Rose self.old.plan.faults self.new.plan.faults) }
         ensures later { self.old.plan.faults ≤ self.new.plan.faults }
-        ensures peer_faults { self.new.peer_faults ≡ self.old.peer_faults }
-        ensures peers_out { self.new.out ≡ self.old.out }
-        ensures told { Some (map parting self.new.given_back) ≡ Some (map parting self.old.given_back) }
     {
         let is_fault = self.plan.planned().is_some();
         self.plan.count(is_fault);
@@ -118,20 +121,15 @@ impl Door for MemDoor {
         ensures fault { IsNone result ↔ (IsSome (planned self.old.plan) ⊎ (self.old.waiting ≡ [])) }
         ensures first { IfSome result (λ peer. self.old.waiting ≡ peer ∷ self.new.waiting) }
         ensures after { IfSome result (λ _. self.new ≡ record self.old {
-            waiting = self.new.waiting;
-            out = self.old.out + 1;
-            plan = judged false self.old.plan }) }
+          waiting = self.new.waiting;
+          out = self.old.out + 1;
+          plan = judged false self.old.plan;
+        }) }
         ensures after_fault { IfNone result (self.new ≡ record self.old { plan = judged true self.old.plan }) }
 
         ensures no_faults { IfSome result (λ peer. peer.plan.faults ≡ 0) }
         ensures untouched { IfSome result (λ peer. IsUntouched (Some peer.traffic)) }
-        ensures telling { IfSome result (λ peer. IsSome (Some (map parting self.old.given_back)) → IsSome (Some peer.traffic)) }
-        ensures out { IfSome result (λ _. self.new.out ≡ self.old.out + 1) }
-        ensures not_out { IfNone result (self.new.out ≡ self.old.out) }
-        ensures failed { IfNone result (Rose self.old.plan.faults self.new.plan.faults) }
         ensures later { self.old.plan.faults ≤ self.new.plan.faults }
-        ensures peer_faults { self.new.peer_faults ≡ self.old.peer_faults }
-        ensures told { Some (map parting self.new.given_back) ≡ Some (map parting self.old.given_back) }
     {
         if self.plan.planned().is_some() {
             self.plan.count(true);
@@ -154,12 +152,7 @@ impl Door for MemDoor {
         requires { 0 < self.old.out }
         ensures after { self.new ≡ door_after_back self.old peer }
 
-        ensures told { Some (map parting self.new.given_back) ≡ with_back (Some (map parting self.old.given_back)) peer.plan.faults (Some peer.traffic) }
-        ensures out { self.new.out + 1 ≡ self.old.out }
-        ensures no_fault { peer.plan.faults ≡ 0 → self.new.peer_faults ≡ self.old.peer_faults }
-        ensures fault { 0 < peer.plan.faults → Rose self.old.peer_faults self.new.peer_faults }
         ensures later { self.old.peer_faults ≤ self.new.peer_faults }
-        ensures faults { self.new.plan.faults ≡ self.old.plan.faults }
     {
         if peer.faults() > 0 {
             self.peer_faults = self.peer_faults.saturating_add(1);

@@ -28,14 +28,16 @@ impl Model for MemPeer {
     ghost Value = { PeerState };
 
     ghost view = { λ p. record {
-        traffic = record { read = take p.at p.input.items; left = drop p.at p.input.items; written = p.written.items };
-        room = p.room;
-        plan = p.plan } };
+      traffic = record { read = take p.at p.input.items; left = drop p.at p.input.items; written = p.written.items };
+      room = p.room;
+      plan = p.plan;
+    } };
 
     ghost invariant = { λ p. record {
-        at : p.at ≤ vec_len p.input;
-        within : vec_len p.written ≤ p.room;
-        room : p.room ≤ vec_capacity p.written } };
+      at : p.at ≤ vec_len p.input;
+      within : vec_len p.written ≤ p.room;
+      room : p.room ≤ vec_capacity p.written;
+    } };
 }
 
 // Copies what fits to the front of the slice, and says how many octets that was.
@@ -57,9 +59,10 @@ impl MemPeer {
         failing: Vec<FailingCall>,
     ) -> Result<Self, AllocError>
         ensures { IfOk result (λ peer. peer ≡ record {
-            traffic = record { read = []; left = input.items; written = [] };
-            room = room;
-            plan = record { failing = failing.items; calls = 0; faults = 0 } }) }
+          traffic = record { read = []; left = input.items; written = [] };
+          room = room;
+          plan = record { failing = failing.items; calls = 0; faults = 0 };
+        }) }
     {
         Ok(MemPeer {
             input,
@@ -115,12 +118,6 @@ impl Peer for MemPeer {
         ensures after { IfSome result (λ n. self.new ≡ peer_after_read n self.old) }
         ensures after_fault { IfNone result (self.new ≡ record self.old { plan = judged true self.old.plan }) }
 
-        ensures within { IfSome result (λ n. n ≤ length into.old) }
-        ensures next { IfSome result (λ n. AreNext (take n into.new) (Some self.old.traffic)) }
-        ensures advanced { IfSome result (λ n. Some self.new.traffic ≡ option_map (advanced n) (Some self.old.traffic)) }
-        ensures end { result ≡ Some 0 → IsAtEnd (Some self.old.traffic) }
-        ensures nothing_taken { IfNone result (Some self.new.traffic ≡ Some self.old.traffic) }
-        ensures failed { IfNone result (Rose self.old.plan.faults self.new.plan.faults) }
         ensures later { self.old.plan.faults ≤ self.new.plan.faults }
     {
         let is_fault = self.plan.planned().is_some();
@@ -137,9 +134,6 @@ impl Peer for MemPeer {
         ensures after { self.new ≡ peer_after_write self.old piece.now }
         ensures fault { result ≡ not (is_fault (planned self.old.plan) (self.old.room - length self.old.traffic.written) piece.now) }
 
-        ensures whole { OnTrue result (Some self.new.traffic ≡ option_map (written_on piece.now) (Some self.old.traffic)) }
-        ensures part { OnFalse result (WrittenByPrefix (Some self.old.traffic) (Some self.new.traffic) piece.now) }
-        ensures failed { OnFalse result (Rose self.old.plan.faults self.new.plan.faults) }
         ensures later { self.old.plan.faults ≤ self.new.plan.faults }
     {
         let planned = self.plan.planned();

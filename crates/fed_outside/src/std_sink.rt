@@ -49,9 +49,6 @@ impl<W: Write + Drop> Sink for StdSink<W> {
     fn put(&mut self, piece: &[u8]) -> bool
         ensures count { self.new ≡ (if result then self.old else raised self.old) }
 
-        ensures whole { OnTrue result (None ≡ grown None piece.now) }
-        ensures part { OnFalse result (GrownByPrefix None None piece.now) }
-        ensures failed { OnFalse result (Rose self.old self.new) }
         ensures later { self.old ≤ self.new }
     {
         // `write_all` fails where the writer takes nothing of octets that are left.

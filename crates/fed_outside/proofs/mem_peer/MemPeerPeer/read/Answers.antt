@@ -1,7 +1,6 @@
-use Rattle.std.proofs.Common.{◌≡◌, false, Some, ap}
-use Rattle.fed_outside.specs.Outside.{Traffic}
+use Rattle.std.proofs.Common.{◌≡◌, false}
 use Rattle.fed_outside.specs.Plan.{judged}
-use Rattle.fed_outside.proofs.Prefixes.{read_on, peer_read_on}
+use Rattle.fed_outside.proofs.Peers.{peer_read_on}
 use Rattle.fed_outside.proofs.mem_peer.MemPeerPeer.read.Goals as goal
 
 pub returns-clause-after : goal.returns-clause-after
@@ -10,9 +9,3 @@ returns-clause-after c =
     rw (← c.self.view_is)
     (peer_read_on c.self.inside.at c.copy_front-n.result c.self.inside.room c.self.inside.input.items c.self.inside.written.items
     c.self.inside.plan c.count.new.self counted)
-
-pub returns-clause-advanced : goal.returns-clause-advanced
-returns-clause-advanced c =
-    rw (← c.self.view_is)
-    (ap (λ (t : Traffic). Some t)
-    (read_on c.self.inside.at c.copy_front-n.result c.self.inside.input.items c.self.inside.written.items))
