@@ -1,4 +1,5 @@
 -- What the shelf, the sink, the peer and the door over memory hold, and what each call does to it.
+-- This project's own: no public document has these definitions.
 use Rattle.std.specs.Prelude.{ℕ, ◌-◌, ◌≡◌, ◌++◌, Bool, true, false, List, [], ◌∷◌, if◌then◌else◌, length, take, find, min, nat_lt, bytes_eq, Option, Some, None, option_map}
 use Rattle.fed_outside.specs.Outside.{Traffic, GivenBack, advanced, written_on}
 use Rattle.fed_outside.specs.Plan.{Plan, planned, raised, judged}

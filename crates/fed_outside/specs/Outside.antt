@@ -1,4 +1,5 @@
 -- What a shelf, a sink, a peer and a door do to what they tell, and what a fault shows.
+-- This project's own: no public document has these definitions.
 use Rattle.std.specs.Prelude.{◌≡◌, ℕ, ◌+◌, ◌^◌, ◌<◌, ◌≤◌, ◌⊎◌, List, [], ◌∷◌, ◌++◌, length, take, drop, Option, Some, None, option_map}
 use Rattle.fed_outside.specs.declared.shelf.Loaded.{Loaded}
 use Rattle.fed_outside.specs.declared.shelf.Loaded.TheVariants.{Bytes, Absent, TooLong, Failed, Memory}

@@ -1,4 +1,5 @@
 -- The calls of a fake that are to fail.
+-- This project's own: no public document has these definitions.
 use Rattle.std.specs.Prelude.{ℕ, ◌+◌, ◌-◌, ◌^◌, ◌==◌, min, Bool, true, false, List, Option, option_map, find}
 use Rattle.fed_outside.specs.declared.plan.FailingCall.{FailingCall}
 

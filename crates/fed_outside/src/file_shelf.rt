@@ -1,6 +1,6 @@
 // The file system as a shelf.
 ghost use Rattle.std.specs.Prelude.{◌≡◌, ◌≢◌, ◌≤◌, length, None};
-ghost use Rattle.fed_outside.specs.Outside.{Rose, IfBytes, Answers};
+ghost use Rattle.fed_outside.specs.Outside.{IfBytes};
 ghost use Rattle.fed_outside.specs.Plan.{raised};
 
 use crate::{Loaded, Shelf};
@@ -29,6 +29,7 @@ impl<R: Files + Drop> Model for FileShelf<R> {
 }
 
 impl<R: Files + Drop> FileShelf<R> {
+    /// A shelf over those files, as `FileShelf::new(&rt)`, with no fault yet.
     pub fn new(files: R) -> Self
         ensures { result ≡ 0 }
     {

@@ -1,7 +1,6 @@
 // A door in memory.
-ghost use Rattle.std.specs.Prelude.{◌≡◌, ◌+◌, ◌-◌, ◌<◌, ◌≤◌, ◌↔◌, ◌⊎◌, [], ◌∷◌, ◌++◌, length, map, All, Some, is_some, IsSome, IsNone, IfOk, IfSome, IfNone, not, true, false};
-ghost use Rattle.std.specs.Bool.{OnFalse};
-ghost use Rattle.fed_outside.specs.Outside.{Rose, IsUntouched, with_back};
+ghost use Rattle.std.specs.Prelude.{◌≡◌, ◌+◌, ◌-◌, ◌<◌, ◌≤◌, ◌↔◌, ◌⊎◌, [], ◌∷◌, map, All, Some, is_some, IsSome, IsNone, IfOk, IfSome, IfNone, not, true, false};
+ghost use Rattle.fed_outside.specs.Outside.{IsUntouched};
 ghost use Rattle.fed_outside.specs.Plan.{planned, judged};
 
 use crate::plan::{CallPlan, FailingCall};

@@ -1,7 +1,5 @@
 // A peer in memory.
-ghost use Rattle.std.specs.Prelude.{◌≡◌, ◌-◌, ◌<◌, ◌≤◌, ◌↔◌, [], ◌++◌, length, take, drop, min, vec_len, vec_capacity, Some, is_some, IsSome, IsNone, IfOk, IfSome, IfNone, not, true, false, option_map};
-ghost use Rattle.std.specs.Bool.{OnTrue, OnFalse};
-ghost use Rattle.fed_outside.specs.Outside.{Rose, advanced, written_on, AreNext, IsAtEnd, WrittenByPrefix};
+ghost use Rattle.std.specs.Prelude.{◌≡◌, ◌-◌, ◌<◌, ◌≤◌, ◌↔◌, [], ◌++◌, length, take, drop, min, vec_len, vec_capacity, Some, is_some, IsSome, IsNone, IfOk, IfSome, IfNone, not, true};
 ghost use Rattle.fed_outside.specs.Plan.{planned, judged};
 
 use crate::Peer;

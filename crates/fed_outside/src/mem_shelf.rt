@@ -1,6 +1,6 @@
 // A shelf in memory.
 ghost use Rattle.std.specs.Prelude.{◌≡◌, ◌≢◌, ◌≤◌, ◌↔◌, length, string_bytes, Some, is_some, IsSome, option_copied, bytes_eq};
-ghost use Rattle.fed_outside.specs.Outside.{Rose, IfBytes, IsContent, Answers};
+ghost use Rattle.fed_outside.specs.Outside.{IfBytes, IsContent, Answers};
 ghost use Rattle.fed_outside.specs.Fakes.{content_of};
 ghost use Rattle.fed_outside.specs.Plan.{planned, judged};
 
@@ -26,6 +26,7 @@ impl Model for MemFile {
 }
 
 impl MemFile {
+    /// A file with this name and content.
     pub fn new(name: String, content: Vec<u8>) -> Self
         ensures { result ≡ record { name = string_bytes name; content = content.items } }
     {

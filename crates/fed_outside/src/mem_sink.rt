@@ -1,9 +1,7 @@
 // A sink in memory.
 ghost use Rattle.std.specs.Prelude.{◌≡◌, ◌-◌, ◌≤◌, [], ◌++◌, length, take, vec_len, vec_capacity, Some, IfOk, not};
 ghost use Rattle.fed_outside.specs.Fakes.{most_out, is_fault};
-ghost use Rattle.std.specs.Bool.{OnTrue, OnFalse};
-ghost use Rattle.fed_outside.specs.Outside.{Rose, grown, GrownByPrefix};
-ghost use Rattle.fed_outside.specs.Plan.{planned, judged};
+ghost use Rattle.fed_outside.specs.Plan.{planned};
 
 use crate::Sink;
 use crate::plan::{CallPlan, FailingCall};

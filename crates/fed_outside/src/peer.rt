@@ -1,5 +1,5 @@
 // The other side of a connection.
-ghost use Rattle.std.specs.Prelude.{◌≡◌, ◌<◌, ◌≤◌, ℕ, List, Option, Some, IfSome, IfNone, option_map, length, take};
+ghost use Rattle.std.specs.Prelude.{◌≡◌, ◌<◌, ◌≤◌, ℕ, Option, Some, IfSome, IfNone, option_map, length, take};
 ghost use Rattle.std.specs.Bool.{OnTrue, OnFalse};
 ghost use Rattle.fed_outside.specs.Outside.{Rose, Traffic, advanced, written_on, AreNext, IsAtEnd, WrittenByPrefix};
 

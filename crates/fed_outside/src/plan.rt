@@ -45,6 +45,7 @@ impl CallPlan {
         }
     }
 
+    /// How many calls were faults.
     pub fn faults(&self) -> u64
         ensures { result ≡ self.now.faults }
     {

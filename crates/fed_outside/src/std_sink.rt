@@ -1,7 +1,5 @@
 // Standard output and standard error as sinks.
 ghost use Rattle.std.specs.Prelude.{◌≡◌, ◌≤◌, if◌then◌else◌, None};
-ghost use Rattle.std.specs.Bool.{OnTrue, OnFalse};
-ghost use Rattle.fed_outside.specs.Outside.{Rose, grown, GrownByPrefix};
 ghost use Rattle.fed_outside.specs.Plan.{raised};
 
 use crate::Sink;
@@ -27,6 +25,7 @@ impl<W: Write + Drop> Model for StdSink<W> {
 }
 
 impl<W: Write + Drop> StdSink<W> {
+    /// A sink over that writer, with no fault yet.
     pub fn new(writer: W) -> Self
         ensures { result ≡ 0 }
     {
