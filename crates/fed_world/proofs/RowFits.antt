@@ -36,7 +36,7 @@ use Rattle.fed_world.specs.Confirm.{confirm_row, confirm_first, confirmed}
 use Rattle.fed_world.specs.Note.{note_row}
 use Rattle.fed_world.specs.Settle.{settle_row}
 use Rattle.fed_world.specs.Step.{next}
-use Rattle.fed_world.proofs.Fits.{FitsEntry, EachFits, RowFits}
+use Rattle.fed_world.specs.Fits.{FitsEntry, EachFits, RowFits}
 
 pub at_place-fits : (J : List Entry) (p : Place) (row : Row) → RowFits J row → RowFits J (at_place J p row)
 at_place-fits J p row h = elim (is_place J p) as (λ b. RowFits J (if b then row else Err why.NoPlace)) [ true ↦ h | false ↦ tt ]

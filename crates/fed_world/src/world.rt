@@ -1,9 +1,10 @@
 //! The state of a run: its journal.
-ghost use Rattle.std.specs.Prelude.{◌≡◌, ◌+◌, ◌<◌, ◌≤◌, ◌++◌, ◌*◌, ◌^◌, Ok, Err, IfOk, OnOk, OnErr, length, vec_len};
+ghost use Rattle.std.specs.Prelude.{◌≡◌, ◌+◌, ◌<◌, ◌≤◌, ◌++◌, ◌*◌, ◌^◌, ◌≢◌, Ok, Err, IfOk, OnOk, OnErr, length, vec_len};
 ghost use Rattle.fed_world.specs.RowOf.{row_of};
 ghost use Rattle.fed_world.specs.Step.{next, after, outcome_of, IsOver};
-ghost use Rattle.fed_world.specs.Run.{begin};
+ghost use Rattle.fed_world.specs.Run.{begin, begun};
 ghost use Rattle.fed_world.specs.Sound.{IsSound};
+ghost use Rattle.fed_world.specs.Fits.{EachFits, RowFits};
 
 use crate::reason::{Outcome, StepFault};
 use crate::row::{Row, nothing};
@@ -90,4 +91,99 @@ fn append(journal: &mut Journal, entries: Vec<Entry>) -> Result<(), JournalFault
         journal.push(entry);
     }
     Ok(())
+}
+
+/// The row of an event, of which each entry fits.
+fn fitting_row(alloc: Global, journal: &Journal, event: &Event) -> Result<Row, AllocError>
+    requires { IsSound journal.now.entries }
+    ensures row { IfOk result (λ row. row_of row ≡ next journal.now.entries event.now) }
+    ensures fits { IfOk result (λ row. RowFits journal.now.entries (row_of row)) }
+{
+    let _entries = journal.entries();
+    let row = next(alloc, journal, event)?;
+    Ok(row)
+}
+
+/// Appends entries that fit, and answers how many.
+fn extend(journal: &mut Journal, entries: Vec<Entry>) -> Result<usize, JournalFault>
+    requires sound { IsSound journal.old.entries }
+    requires fits { EachFits journal.old.entries entries.items }
+    ensures ok { OnOk result (journal.new.entries ≡ journal.old.entries ++ entries.items) }
+    ensures count { IfOk result (λ count. count ≡ length entries.items) }
+    ensures sound { IsSound journal.new.entries }
+    ensures err { OnErr result (journal.new.entries ≡ journal.old.entries) }
+    ensures full { result ≡ Err JournalFault.Entries → MAX_ENTRIES < length journal.old.entries + length entries.items }
+    ensures within { OnOk result (length journal.old.entries + length entries.items ≤ MAX_ENTRIES) }
+{
+    let count = entries.len();
+    match append(journal, entries) {
+        Ok(()) => Ok(count),
+        Err(fault) => Err(fault),
+    }
+}
+
+/// The entry of a bare broker.
+fn begun(alloc: Global, broker: &Text) -> Result<Entry, AllocError>
+    ensures { IfOk result (λ entry. entry ≡ begun broker.now) }
+{
+    Ok(Entry::Begun {
+        broker: broker.clone()?,
+        cluster: broker.clone()?,
+        kept: Text::from_str(alloc, "{}")?,
+    })
+}
+
+/// The entries of bare brokers.
+fn begin_entries(alloc: Global, brokers: &[Text]) -> Result<Vec<Entry>, AllocError>
+    ensures { IfOk result (λ entries. entries.items ≡ begin brokers.now) }
+{
+    let mut entries = Vec::new(alloc);
+    for broker in brokers {
+        entries.push(begun(alloc, broker)?)?;
+    }
+    Ok(entries)
+}
+
+impl World {
+    /// The world before the first event of a run of these bare brokers. Only memory can be wanting.
+    pub fn begin(alloc: Global, brokers: &[Text]) -> Result<World, AllocError>
+        requires { length brokers.now ≤ 64 }
+        ensures { IfOk result (λ world. world ≡ begin brokers.now) }
+    {
+        let entries = begin_entries(alloc, brokers)?;
+        let mut journal = Journal::new(alloc);
+        match extend(&mut journal, entries) {
+            Ok(_) => Ok(World { alloc, journal }),
+            Err(_) => Err(AllocError),
+        }
+    }
+
+    /// Does one event, as its rule says: either its entries are appended, or nothing changes. Entries where the
+    /// journal would pass its limit.
+    pub fn step(&mut self, event: &Event) -> Result<Outcome, StepFault>
+        ensures outcome { IfOk result (λ outcome. outcome ≡ outcome_of (next self.old event.now)) }
+        ensures journal { OnOk result (self.new ≡ after self.old (next self.old event.now)) }
+        ensures err { OnErr result (self.new ≡ self.old) }
+
+        ensures full { result ≡ Err StepFault.Entries → IsOver self.old (next self.old event.now) }
+        ensures within { OnOk result (IsOver self.old (next self.old event.now) → ⊥) }
+    {
+        match fitting_row(self.alloc, &self.journal, event) {
+            Err(_) => Err(StepFault::Memory),
+            Ok(Err(reason)) => Ok(Outcome::NotNow(reason)),
+            Ok(Ok(entries)) => match extend(&mut self.journal, entries) {
+                Ok(count) => Ok(Outcome::Done(count)),
+                Err(JournalFault::Entries) => Err(StepFault::Entries),
+                Err(JournalFault::Memory) => Err(StepFault::Memory),
+            },
+        }
+    }
+
+    /// The journal so far.
+    pub fn journal(&self) -> &Journal
+        ensures entries { result.now.entries ≡ self.now }
+        ensures sound { IsSound self.now }
+    {
+        &self.journal
+    }
 }
