@@ -1,8 +1,8 @@
 -- When digits write a port's number, by their value up to 65,536.
-use Rattle.std.proofs.Common.{◌≡◌, ℕ, ◌<◌, ◌≤◌, min, true, false, List, arith}
+use Rattle.std.proofs.Common.{◌≡◌, ℕ, ◌≤◌, min, true, false, List, arith}
 use Rattle.std.specs.List.{list_all}
 use Rattle.std.specs.Char.{is_ascii_digit}
-use Rattle.std.proofs.lemmas.Bool.{and_left, and_from}
+use Rattle.std.proofs.lemmas.Bool.{and_left}
 use Rattle.std.proofs.lemmas.Bool.Decides.{nat_tests}
 use Rattle.amqp_uri.specs.Uri.{is_port, decimal_value}
 

@@ -1,6 +1,6 @@
 -- The grammar of AMQP URIs, `amqp://[user[:pass]@][host][:port][/vhost][?query]`, by parts: RabbitMQ's "AMQP URI
 -- Specification" over RFC 3986. Bytes are numbered from 0 in the text of the URI.
-use Rattle.std.specs.Prelude.{ℕ, ◌+◌, ◌-◌, ◌*◌, ◌==◌, nat_le, nat_lt, nat_eq, Bool, true, false, not, ◌&&◌, ◌||◌, List, [], ◌∷◌, length, drop, fold, codes, Option, Some, None, option_map, unwrap_or, if◌then◌else◌}
+use Rattle.std.specs.Prelude.{ℕ, ◌+◌, ◌-◌, ◌*◌, ◌==◌, nat_le, nat_lt, nat_eq, Bool, false, not, ◌&&◌, ◌||◌, List, [], ◌∷◌, length, drop, fold, codes, Option, Some, None, option_map, unwrap_or, if◌then◌else◌}
 use Rattle.std.specs.List.{list_all, starts_with, before_first, after_first, position_or_len}
 use Rattle.std.specs.Option.{option_map_or}
 use Rattle.std.specs.Char.{is_ascii_alphanumeric, is_ascii_digit, is_ascii_hexdigit}

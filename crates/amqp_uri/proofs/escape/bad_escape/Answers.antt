@@ -1,7 +1,6 @@
-use Rattle.std.proofs.Common.{arith, ◌∙◌, ◌==◌, ◌&&◌, not, ◌≡◌, false, length, ◌<◌, get_or, drop, ◌+◌}
+use Rattle.std.proofs.Common.{arith, ◌∙◌, length, ◌<◌}
 use Rattle.std.proofs.lemmas.Grind.{common_steps}
 use Rattle.std.proofs.lemmas.Bool.Decides.{nat_tests}
-use Rattle.amqp_uri.specs.Uri.{begin_with_digits}
 use Rattle.amqp_uri.proofs.EscapeLemmas.{bad_escape_more}
 use Rattle.amqp_uri.proofs.escape.bad_escape.Goals as goal
 use Rattle.amqp_uri.proofs.escape.bad_escape.Goals.{else-byte-eq37-via-then-byte-eq37+else-not-begin_with_digits, else-byte-eq37-via-else-byte-eq37}

@@ -1,0 +1,68 @@
+use regex::Regex;
+use std::alloc::{AllocError, Global};
+use std::marker::Model;
+use thiserror::Error;
+
+/// Why a text is no pattern.
+#[derive(Clone, Copy, Debug, PartialEq, Eq, Error)]
+pub enum PatternFault {
+    /// The text is no regular expression, or one that nests deeper than 250.
+    #[error("not a regular expression")]
+    Bad,
+    /// Memory ran out, or the pattern would take more than its limit of ten mebibytes.
+    #[error("out of memory")]
+    Memory,
+}
+
+/// A pattern, built from its text once, and shared from then on.
+#[derive(Drop)]
+pub struct Pattern {
+    regex: Regex,
+}
+
+impl Model for Pattern {
+    ghost use Rattle.regex.specs.Strings.{regex_pattern, regex_source};
+    ghost use Rattle.policy_core.specs.Patterns.{PatternValue};
+
+    ghost Value = { PatternValue };
+
+    ghost view = { λ p. record { text = regex_source p.regex; expression = regex_pattern p.regex } };
+}
+
+impl Pattern {
+    ghost use Rattle.std.specs.Prelude.{◌≡◌, ◌⊎◌, Err, IfOk, IsErr};
+    ghost use Rattle.policy_core.specs.Patterns.{IsReadFrom, IsNoPattern, NestsTooDeep, is_found};
+
+    /// Builds the pattern that the text writes. Memory is also wanting where a pattern would take more than ten
+    /// mebibytes.
+    pub fn build(alloc: Global, text: &str) -> Result<Pattern, PatternFault>
+        ensures text { IfOk result (λ pattern. pattern.text ≡ text.now) }
+        ensures read { IfOk result (λ pattern. IsReadFrom text.now pattern.expression) }
+
+        ensures bad { result ≡ Err PatternFault.Bad → IsNoPattern text.now ⊎ NestsTooDeep text.now }
+        ensures refused { IsNoPattern text.now ⊎ NestsTooDeep text.now → IsErr result }
+    {
+        match Regex::new(alloc, text) {
+            Ok(regex) => Ok(Pattern { regex }),
+            Err(regex::Error::Syntax(_)) => Err(PatternFault::Bad),
+            Err(regex::Error::CompiledTooBig) => Err(PatternFault::Memory),
+            Err(regex::Error::OutOfMemory) => Err(PatternFault::Memory),
+            Err(regex::Error::Internal) => unreachable!(),
+        }
+    }
+
+    /// The text that the pattern was built from.
+    pub fn text(&self) -> &str
+        ensures { result.now ≡ self.now.text }
+    {
+        self.regex.as_str()
+    }
+
+    /// Whether the pattern is found in the name. Fails only by memory.
+    pub fn found(&self, alloc: Global, name: &str) -> Result<bool, AllocError>
+        ensures { IfOk result (λ found. found ≡ is_found self.now name.now) }
+    {
+        let mut matcher = self.regex.matcher(alloc)?;
+        Ok(matcher.is_match(name))
+    }
+}
