@@ -1,2 +1,3 @@
 pub mod BestLemmas
 pub mod RankLemmas
+pub mod FoundLemmas

@@ -1,10 +1,11 @@
 -- Which policy of a virtual host applies to an object: RabbitMQ's "Parameters and Policies", sections "How Policies
 -- Work" and "Combining Policy Definitions". That equal priorities are decided by the least name is a choice.
-use Rattle.std.specs.Prelude.{ℕ, ℤ, Bool, true, false, ◌&&◌, not, List, Option, string_bytes, nat_cmp}
+use Rattle.std.specs.Prelude.{ℕ, ℤ, Bool, true, false, ◌&&◌, not, List, Option, string_bytes}
 use Rattle.std.specs.List.{list_any, position}
-use Rattle.std.specs.Ordering.{Ordering, ordering_then, int_cmp, is_gt}
+use Rattle.std.specs.declared.cmp.Ordering.{Ordering}
+use Rattle.std.specs.Ordering.{ordering_then, int_cmp, nat_cmp, is_gt}
 use Rattle.std.specs.Cmp.Lexicographic.{slice_cmp}
-use Rattle.policy_core.specs.Patterns.{PatternValue, is_found}
+use Rattle.policy_core.specs.Patterns.{is_found}
 use Rattle.policy_core.specs.declared.policy.Apply.{Apply}
 use Rattle.policy_core.specs.declared.policy.Apply.TheVariants.{All, Exchanges, Queues, Classic, Quorum, Streams}
 use Rattle.policy_core.specs.declared.policy.ObjectKind.{ObjectKind}
@@ -14,7 +15,8 @@ use Rattle.policy_core.specs.declared.policy.PolicyText.{PolicyText}
 -- a policy, by what decides between policies
 pub record Policy : Type 0 where
   pub name : List ℕ
-  pub pattern : PatternValue
+  -- its text
+  pub pattern : List ℕ
   pub apply : Apply
   pub priority : ℤ
 

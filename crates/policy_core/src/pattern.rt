@@ -21,24 +21,25 @@ pub struct Pattern {
 }
 
 impl Model for Pattern {
-    ghost use Rattle.regex.specs.Strings.{regex_pattern, regex_source};
-    ghost use Rattle.policy_core.specs.Patterns.{PatternValue};
+    ghost use Rattle.std.specs.Prelude.{◌≡◌, ℕ, List};
+    ghost use Rattle.regex.specs.Patterns.{default_config};
+    ghost use Rattle.regex.specs.Strings.{regex_source, regex_config, IsReadFromSource};
 
-    ghost Value = { PatternValue };
+    ghost Value = { List ℕ };
 
-    ghost view = { λ p. record { text = regex_source p.regex; expression = regex_pattern p.regex } };
+    ghost view = { λ p. regex_source p.regex };
+
+    ghost invariant = { λ p. (regex_config p.regex ≡ default_config) × IsReadFromSource p.regex };
 }
 
 impl Pattern {
     ghost use Rattle.std.specs.Prelude.{◌≡◌, ◌⊎◌, Err, IfOk, IsErr};
-    ghost use Rattle.policy_core.specs.Patterns.{IsReadFrom, IsNoPattern, NestsTooDeep, is_found};
+    ghost use Rattle.policy_core.specs.Patterns.{IsNoPattern, NestsTooDeep, is_found};
 
     /// Builds the pattern that the text writes. Memory is also wanting where a pattern would take more than ten
     /// mebibytes.
     pub fn build(alloc: Global, text: &str) -> Result<Pattern, PatternFault>
-        ensures text { IfOk result (λ pattern. pattern.text ≡ text.now) }
-        ensures read { IfOk result (λ pattern. IsReadFrom text.now pattern.expression) }
-
+        ensures text { IfOk result (λ pattern. pattern ≡ text.now) }
         ensures bad { result ≡ Err PatternFault.Bad → IsNoPattern text.now ⊎ NestsTooDeep text.now }
         ensures refused { IsNoPattern text.now ⊎ NestsTooDeep text.now → IsErr result }
     {
@@ -53,7 +54,7 @@ impl Pattern {
 
     /// The text that the pattern was built from.
     pub fn text(&self) -> &str
-        ensures { result.now ≡ self.now.text }
+        ensures { result.now ≡ self.now }
     {
         self.regex.as_str()
     }

@@ -88,7 +88,7 @@ impl PolicyText {
     /// Whether the policy stands above the best so far, if there is one.
     fn replaces(&self, best: Option<(usize, &PolicyText)>) -> bool
         ensures { result ≡ option_map_or
-            (λ best. is_above (policy_of self.now) (policy_of best.1.now)) true best.entry }
+            (λ best. is_above (policy_of self.now) (policy_of best.1.now)) best.entry true }
     {
         match best {
             None => true,
