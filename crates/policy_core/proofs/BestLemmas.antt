@@ -1,7 +1,7 @@
 -- The best element of a list: one that fits, that no other that fits stands above, and the first of its rank.
 use Rattle.std.proofs.Common.{◌≡◌, ℕ, ◌+◌, Bool, true, false, ◌&&◌, ◌||◌, not, List, [], ◌∷◌, ◌++◌, length, Option, Some, None, option_map, arith, refl, ap, sym, ◌∙◌, subst, ⊎_elim, append_assoc}
 use Rattle.std.specs.List.{list_any, position, position_from}
-use Rattle.std.specs.Option.{option_map_or}
+use Rattle.std.specs.Prelude.{is_some}
 use Rattle.std.proofs.lemmas.Bool.{and_parts, and_from, false≢true}
 use Rattle.std.proofs.lemmas.Iterator.Adapters.{position_from-zero}
 use Rattle.std.proofs.lemmas.List.Folds.{list_any-append}
@@ -188,8 +188,9 @@ position_best {X} fit above laws xs (Some best) is =
     ∙ ap (λ n. Some n) (omega (arith, is.place))
 
 -- there is a best exactly where one fits
-pub is_some_best : {X : Type 0} (fit : X → Bool) (above : X → X → Bool) (xs : List X) (best : ℕ × X) →
-    IsBest fit above xs best → list_any fit xs ≡ true
-is_some_best fit above xs best is =
-    true_from (list_any fit xs) (λ none. false≢true
-        (sym (middle_fails fit is.before best.1 is.after (subst (λ ys. list_any fit ys ≡ false) is.split none)) ∙ is.fits))
+pub is_some_best_of : {X : Type 0} (fit : X → Bool) (above : X → X → Bool) (xs : List X) (best : Option (ℕ × X)) →
+    IsBestOf fit above xs best → is_some best ≡ list_any fit xs
+is_some_best_of fit above xs None none = sym none
+is_some_best_of fit above xs (Some best) is =
+    sym (true_from (list_any fit xs) (λ none. false≢true
+        (sym (middle_fails fit is.before best.1 is.after (subst (λ ys. list_any fit ys ≡ false) is.split none)) ∙ is.fits)))

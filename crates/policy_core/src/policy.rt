@@ -116,5 +116,8 @@ pub fn choose(
             best = Some((place, policy));
         }
     }
-    Ok(best.map(|(place, _)| place))
+    match best {
+        Some((place, _)) => Ok(Some(place)),
+        None => Ok(None),
+    }
 }
