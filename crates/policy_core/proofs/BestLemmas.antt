@@ -1,5 +1,5 @@
 -- The best element of a list: one that fits, that no other that fits stands above, and the first of its rank.
-use Rattle.std.proofs.Common.{◌≡◌, ℕ, ◌+◌, Bool, true, false, ◌&&◌, ◌||◌, not, List, [], ◌∷◌, ◌++◌, length, Option, Some, None, option_map, arith, refl, ap, sym, ◌∙◌, subst, ⊎_elim, append_assoc}
+use Rattle.std.proofs.Common.{◌≡◌, ℕ, ◌+◌, Bool, true, false, ◌&&◌, ◌||◌, not, List, [], ◌∷◌, ◌++◌, length, Option, Some, None, option_map, arith, refl, ap, sym, ◌∙◌, subst, append_assoc}
 use Rattle.std.specs.List.{list_any, position, position_from}
 use Rattle.std.specs.Prelude.{is_some}
 use Rattle.std.proofs.lemmas.Bool.{and_parts, and_from, false≢true}
@@ -133,14 +133,14 @@ best_replaced {X} fit above laws xs x (Some best) is higher =
     let over = (and_parts (fit x) (above x p) higher).1 in
     let test : X → Bool = λ q. fit q && not (above x q) in
     let under : (q : X) → test q ≡ true → (fit q ≡ true) × (above q p ≡ true) = λ q h.
-        let parts = and_parts (fit q) (not (above x q)) h in
-        (parts.0, between laws x q p over (not_true (above x q) parts.1)) in
+    let parts = and_parts (fit q) (not (above x q)) h in
+    (parts.0, between laws x q p over (not_true (above x q) parts.1)) in
     let in_before = none_weaker (λ q. fit q && not (above p q)) test
-        (λ q h. and_from (fit q) (not (above p q)) (under q h).0 (ap not (laws.asymmetric q p (under q h).1)))
-        is.before is.first in
+    (λ q h. and_from (fit q) (not (above p q)) (under q h).0 (ap not (laws.asymmetric q p (under q h).1)))
+    is.before is.first in
     let in_after = none_weaker (λ q. fit q && above q p) test
-        (λ q h. and_from (fit q) (above q p) (under q h).0 (under q h).1)
-        is.after is.highest in
+    (λ q h. and_from (fit q) (above q p) (under q h).0 (under q h).1)
+    is.after is.highest in
     let at_best : test p ≡ false = false_from (test p) (λ h. false≢true (sym (laws.irreflexive p) ∙ (under p h).1)) in
     record {
       before = xs;
@@ -166,21 +166,21 @@ position_best {X} fit above laws xs (Some best) is =
     let test : X → Bool = λ r. fit r && not (list_any (λ q. fit q && above q r) xs) in
     let higher : X → Bool = λ q. fit q && above q p in
     let in_before = none_weaker (λ q. fit q && not (above p q)) higher
-        (λ q h. let parts = and_parts (fit q) (above q p) h in
-            and_from (fit q) (not (above p q)) parts.0 (ap not (laws.asymmetric q p parts.1)))
-        is.before is.first in
+    (λ q h. let parts = and_parts (fit q) (above q p) h in
+    and_from (fit q) (not (above p q)) parts.0 (ap not (laws.asymmetric q p parts.1)))
+    is.before is.first in
     let at_best : higher p ≡ false =
-        false_from (higher p) (λ h. false≢true (sym (laws.irreflexive p) ∙ (and_parts (fit p) (above p p) h).1)) in
+    false_from (higher p) (λ h. false≢true (sym (laws.irreflexive p) ∙ (and_parts (fit p) (above p p) h).1)) in
     let none_higher : list_any higher xs ≡ false = subst (λ ys. list_any higher ys ≡ false) (sym is.split)
-        (none_append higher is.before (p ∷ is.after) in_before
-            (or_from (higher p) (list_any higher is.after) at_best is.highest)) in
+    (none_append higher is.before (p ∷ is.after) in_before
+    (or_from (higher p) (list_any higher is.after) at_best is.highest)) in
     let others_fail = none_weaker (λ q. fit q && not (above p q)) test
-        (λ q h. let parts = and_parts (fit q) (not (list_any (λ r. fit r && above r q) xs)) h in
-            let no_higher = subst (λ ys. list_any (λ r. fit r && above r q) ys ≡ false) is.split (not_true _ parts.1) in
-            let not_best = middle_fails (λ r. fit r && above r q) is.before p is.after no_higher in
-            and_from (fit q) (not (above p q)) parts.0
-            (ap not (false_from (above p q) (λ over. false≢true (sym not_best ∙ and_from (fit p) (above p q) is.fits over)))))
-        is.before is.first in
+    (λ q h. let parts = and_parts (fit q) (not (list_any (λ r. fit r && above r q) xs)) h in
+    let no_higher = subst (λ ys. list_any (λ r. fit r && above r q) ys ≡ false) is.split (not_true _ parts.1) in
+    let not_best = middle_fails (λ r. fit r && above r q) is.before p is.after no_higher in
+    and_from (fit q) (not (above p q)) parts.0
+    (ap not (false_from (above p q) (λ over. false≢true (sym not_best ∙ and_from (fit p) (above p q) is.fits over)))))
+    is.before is.first in
     let passes : test p ≡ true = and_from (fit p) (not (list_any higher xs)) is.fits (ap not none_higher) in
     position_from-zero test xs
     ∙ ap (λ ys. position_from test 0 ys) is.split
@@ -193,4 +193,4 @@ pub is_some_best_of : {X : Type 0} (fit : X → Bool) (above : X → X → Bool)
 is_some_best_of fit above xs None none = sym none
 is_some_best_of fit above xs (Some best) is =
     sym (true_from (list_any fit xs) (λ none. false≢true
-        (sym (middle_fails fit is.before best.1 is.after (subst (λ ys. list_any fit ys ≡ false) is.split none)) ∙ is.fits)))
+    (sym (middle_fails fit is.before best.1 is.after (subst (λ ys. list_any fit ys ≡ false) is.split none)) ∙ is.fits)))

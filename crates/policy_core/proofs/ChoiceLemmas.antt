@@ -41,7 +41,7 @@ pub seen_replaced : (fit : Policy → Bool) (list : List PolicyText) (i : ℕ) (
     IsBestOf fit is_above (map policy_of (take (i + 1) list)) (Some (i, policy_of p))
 seen_replaced fit list i p within is best so_far higher =
     let place : length (map policy_of (take i list)) ≡ i =
-        length-map (take i list) policy_of ∙ length-take-le i list (omega arith) in
+    length-map (take i list) policy_of ∙ length-take-le i list (omega arith) in
     subst (λ xs. IsBestOf fit is_above xs (Some (i, policy_of p))) (sym (one_more list i p within is))
     (subst (λ n. IsBestOf fit is_above (map policy_of (take i list) ++ policy_of p ∷ []) (Some (n, policy_of p))) place
     (best_replaced fit is_above above_ranks (map policy_of (take i list)) (policy_of p) best so_far higher))

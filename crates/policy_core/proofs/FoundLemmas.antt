@@ -1,13 +1,12 @@
 -- What a pattern was compiled to, against what the grammar reads in its text.
-use Rattle.std.proofs.Common.{◌≡◌, ◌≢◌, ◌⊎◌, ℕ, ◌<◌, ◌≤◌, Bool, true, false, List, Option, Some, None, All, option_map, refl, ap, ◌∙◌, sym, inl, inr, ⊎_elim, arith}
+use Rattle.std.proofs.Common.{◌≡◌, ◌≢◌, ◌⊎◌, ℕ, ◌<◌, ◌≤◌, false, List, Option, Some, None, All, option_map, refl, ap, ◌∙◌, sym, inl, inr, ⊎_elim, arith}
 use Rattle.std.specs.Prelude.{chars, is_some, IsSomeAnd, IfSome}
 use Rattle.std.specs.Option.{option_map_or}
 use Rattle.regex_hir.specs.Re.{Re}
-use Rattle.regex_hir.specs.Find.{Match, find_str}
+use Rattle.regex_hir.specs.Find.{find_str}
 use Rattle.regex_hir.specs.Meaning.{meaning}
 use Rattle.regex_hir.specs.declared.hir.Hir.{Hir}
 use Rattle.regex_syntax.specs.Captures.{SameCaptures}
-use Rattle.regex_syntax.specs.Escapes.{Piece}
 use Rattle.regex_syntax.specs.Brackets.{Nested}
 use Rattle.regex_syntax.specs.Grammar.{Names, read}
 use Rattle.regex_syntax.specs.Verdict.{Reads, Refuses, default_config}
@@ -54,7 +53,7 @@ pub found_by_text : (r : Regex) (text name : List ℕ) → regex_source r ≡ te
 unfolding is_found
 found_by_text r text name is_source is_config is_read bytes =
     let reads : Reads default_config text r.pattern.program.hir (names_of r.pattern.names.items) =
-        rw (is_source, is_config) at is_read in
+    rw (is_source, is_config) at is_read in
     found_as_read (regex_pattern r) name bytes (read default_config (chars text))
     (reads_alike text r.pattern.program.hir (names_of r.pattern.names.items) reads)
 
@@ -82,6 +81,6 @@ pub not_refused : (r : Regex) (text : List ℕ) → regex_source r ≡ text → 
 unfolding Reads
 not_refused r text is_source is_config is_read =
     let reads : Reads default_config text r.pattern.program.hir (names_of r.pattern.names.items) =
-        rw (is_source, is_config) at is_read in
+    rw (is_source, is_config) at is_read in
     not_both (read default_config (chars text))
     (weaker _ _ (λ found holds. holds.0) (read default_config (chars text)) reads)

@@ -1,9 +1,9 @@
 -- The rank of policies is a total order, by priority and then by name.
-use Rattle.std.proofs.Common.{◌≡◌, true, false, List, map, ◌++◌, ◌∷◌, [], take, get_or, ℕ, ◌+◌, ◌<◌, length, ap, ◌∙◌, refl, sym}
+use Rattle.std.proofs.Common.{◌≡◌, true, false, ap, ◌∙◌, refl, sym}
 use Rattle.std.specs.Cmp.{IsTotalOrder}
 use Rattle.std.specs.declared.cmp.Ordering.{Ordering}
 use Rattle.std.specs.declared.cmp.Ordering.TheVariants.{Less, Equal, Greater}
-use Rattle.std.specs.Ordering.{is_gt, ordering_reverse, nat_cmp}
+use Rattle.std.specs.Ordering.{is_gt, ordering_reverse}
 use Rattle.std.proofs.lemmas.Cmp.{int_cmp_total, nat_list_cmp_total, on_total, then_total, back_total, tied_itself, upto}
 use Rattle.policy_core.specs.Policies.{Policy, rank, is_above}
 use Rattle.policy_core.proofs.BestLemmas.{IsRanking}

@@ -36,7 +36,7 @@ pub enum ObjectKind {
 }
 
 /// What decides between the policies of a virtual host.
-#[derive(Drop)]
+#[derive(Clone, PartialEq, Eq, Drop)]
 pub struct PolicyText {
     /// The policy's name.
     pub name: String,

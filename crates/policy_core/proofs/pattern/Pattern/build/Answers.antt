@@ -8,7 +8,7 @@ use Rattle.policy_core.proofs.pattern.Pattern.build.Goals as goal
 pub returns-in-Ok-clause-refused : goal.returns-in-Ok-clause-refused
 returns-in-Ok-clause-refused c = λ refused.
     absurd (not_refused c.in-Ok.regex c.args.text.now c.in-Ok.ensures.source c.in-Ok.ensures.config c.in-Ok.ensures.read
-        refused)
+    refused)
 
 pub returns-in-Err-Syntax-clause-bad : goal.returns-in-Err-Syntax-clause-bad
 returns-in-Err-Syntax-clause-bad c = λ _.

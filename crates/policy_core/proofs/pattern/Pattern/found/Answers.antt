@@ -1,5 +1,5 @@
 -- The matcher searches for what the pattern was compiled to, which is what the grammar reads in its text.
-use Rattle.std.proofs.Common.{◌≡◌, ◌∙◌, ◌<◌, ℕ, ap, arith}
+use Rattle.std.proofs.Common.{◌∙◌, ◌<◌, ℕ, ap, arith}
 use Rattle.std.specs.Prelude.{is_some}
 use Rattle.std.proofs.lemmas.List.Elements.{All-from_get_or}
 use Rattle.regex_hir.specs.Find.{find_str}
@@ -12,4 +12,4 @@ returns c =
     c.is_match.ensures.found
     ∙ ap (λ tree. is_some (find_str tree c.args.name.now 0)) c.in_ok-matcher.ensures.pattern
     ∙ found_by_text c.self.inside.regex c.args.self.now c.args.name.now c.self.view_is c.self.invariant.0
-        c.self.invariant.1 bytes
+    c.self.invariant.1 bytes
