@@ -6,7 +6,6 @@ ghost use Rattle.std.proofs.Common.{rules};
 ghost use Rattle.std.specs.List.{starts_with};
 ghost use Rattle.fed_journal.specs.Names.{is_reserved};
 
-
 use std::alloc::{AllocError, Global};
 use std::marker::Model;
 

@@ -63,16 +63,16 @@ set_shovel_row-fits : (J : List Entry) (p : Place) (name : List ℕ) (shovel : S
 unfolding set_shovel_row
 set_shovel_row-fits J p name shovel =
     at_place-fits J p _
-      (elim (is_shovel_set J p name) as (λ v. RowFits J (if v then Ok [] else Ok (ShovelSet p name shovel ∷ []))) [ true ↦ tt | false ↦ (tt, tt) ])
+    (elim (is_shovel_set J p name) as (λ v. RowFits J (if v then Ok [] else Ok (ShovelSet p name shovel ∷ []))) [ true ↦ tt | false ↦ (tt, tt) ])
 
 declare_row-fits : (J : List Entry) (p : Place) (q : List ℕ) → RowFits J (declare_row J p q)
 unfolding declare_row
 declare_row-fits J p q =
     at_place-fits J p _
-      (elim (is_refused J p q) as (λ v. RowFits J (if v then Err (why.Refused 403) else if stands J p q then Ok [] else Ok (MadeQueue p q lasting ∷ []))) [
-        | true ↦ tt
-        | false ↦ elim (stands J p q) as (λ v. RowFits J (if v then Ok [] else Ok (MadeQueue p q lasting ∷ []))) [ true ↦ tt | false ↦ (tt, tt) ]
-      ])
+    (elim (is_refused J p q) as (λ v. RowFits J (if v then Err (why.Refused 403) else if stands J p q then Ok [] else Ok (MadeQueue p q lasting ∷ []))) [
+      | true ↦ tt
+      | false ↦ elim (stands J p q) as (λ v. RowFits J (if v then Ok [] else Ok (MadeQueue p q lasting ∷ []))) [ true ↦ tt | false ↦ (tt, tt) ]
+    ])
 
 -- the copies of a message that the default exchange routes have numbers that fit
 routes-fit : (J : List Entry) (queues : List (List ℕ)) → length queues ≤ 1 → copy_count J < 2 ^ 63 → first_copy J queues + length queues < 2 ^ 64
@@ -141,8 +141,8 @@ made_if-fits J false p q es h = h J (omega arith)
 opened-fits : (J : List Entry) (spec : LinkSpec) (source target : Option Place) → session J spec.name ≤ length J → RowFits J (opened J spec source target)
 opened-fits J spec (Some source) (Some target) h =
     subst (EachFits J) (sym (append_assoc (made_if (not (stands J source spec.source_queue)) source spec.source_queue) (made_if (is_target_missing J spec source target) target spec.target_queue) (Opened spec.name (session J spec.name + 1) (ready_count J source spec.source_queue) ∷ [])))
-      (made_if-fits J (not (stands J source spec.source_queue)) source spec.source_queue _
-        (λ K k. made_if-fits K (is_target_missing J spec source target) target spec.target_queue _ (λ L l. (omega arith, tt))))
+    (made_if-fits J (not (stands J source spec.source_queue)) source spec.source_queue _
+    (λ K k. made_if-fits K (is_target_missing J spec source target) target spec.target_queue _ (λ L l. (omega arith, tt))))
 opened-fits J spec (Some source) None h = tt
 opened-fits J spec None target h = tt
 

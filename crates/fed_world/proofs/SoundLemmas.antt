@@ -49,14 +49,14 @@ IsSound-push : (J : List Entry) (e : Entry) → IsSound J → FitsEntry J e → 
 IsSound-push J e sound fits within = record {
   within = simp length-append (omega arith);
   numbered = All-push IsNumbered J e sound.numbered (IsNumbered-fits J e fits);
-  sessions = λ l. rw session-push (simp length-append (session_step-fits J e l (sound.sessions l) fits))
+  sessions = λ l. rw session-push (simp length-append (session_step-fits J e l (sound.sessions l) fits));
 }
 
 pub IsSound-append : (J es : List Entry) → IsSound J → EachFits J es → length J + length es ≤ MAX_ENTRIES → IsSound (J ++ es)
 IsSound-append J [] sound fits within = subst IsSound (sym (append-nil J)) sound
 IsSound-append J (e ∷ es) sound fits within =
     subst IsSound (append_assoc J (e ∷ []) es)
-      (IsSound-append (J ++ e ∷ []) es (IsSound-push J e sound fits.0 (omega arith)) fits.1 (simp length-append (omega arith)))
+    (IsSound-append (J ++ e ∷ []) es (IsSound-push J e sound fits.0 (omega arith)) fits.1 (simp length-append (omega arith)))
 
 pub IsSound-empty : IsSound []
 unfolding session

@@ -60,7 +60,16 @@ pub fn next(alloc: Global, journal: &Journal, event: &Event) -> Result<Row, Allo
             key,
             body,
             persistent,
-        } => publish_row(alloc, entries, place, *client, key, body, *persistent, numbers),
+        } => publish_row(
+            alloc,
+            entries,
+            place,
+            *client,
+            key,
+            body,
+            *persistent,
+            numbers,
+        ),
         Event::Flush { broker } => flush_row(alloc, entries, broker),
         Event::SetShovel {
             place,

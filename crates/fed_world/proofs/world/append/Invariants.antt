@@ -7,5 +7,5 @@ invariant-loop-entry l = record {
   can : (goal.iterator-loop-entry).can_next l.entry-iterator;
   finite : (goal.iterator-loop-entry).is_finite l.entry-iterator;
   entries : l.journal.entries ≡ l.initial.journal.entries ++ l.yielded;
-  room : length l.fn.entries.items ≤ length l.yielded + l.journal.room
+  room : length l.fn.entries.items ≤ length l.yielded + l.journal.room;
 }
