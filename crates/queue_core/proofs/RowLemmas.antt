@@ -1,12 +1,13 @@
 -- What keeps the rows of a queue in their order, and what one row's change is over all rows.
-use Rattle.std.proofs.Common.{◌≡◌, ◌≢◌, ℕ, ◌+◌, ◌<◌, ◌≤◌, Bool, true, false, cond, List, [], ◌∷◌, ◌++◌, length, get_or, set, Option, Some, None, refl, sym, ◌∙◌, ap, subst, arith, suc, zero, eqb}
+use Rattle.std.proofs.Common.{◌≡◌, ◌≢◌, ℕ, ◌+◌, ◌<◌, ◌≤◌, Bool, true, false, cond, List, [], ◌∷◌, ◌++◌, Option, Some, None, length, get_or, set, take, drop, refl, sym, ◌∙◌, ap, subst, arith, eqb, eq-eqb}
 use Rattle.std.specs.Prelude.{All, map, filter, find, if◌then◌else◌}
 use Rattle.std.proofs.lemmas.Bool.Decides.{nat_tests}
-use Rattle.std.proofs.lemmas.List.Elements.{All-nil, All-cons, All-head, All-tail, All-push, All-filter, All-map, All-weaker, All-get_or}
-use Rattle.std.proofs.lemmas.List.Folds.{map_fixed}
-use Rattle.queue_core.specs.declared.rows.Hold.{Hold}
+use Rattle.std.proofs.lemmas.List.Elements.{All-nil, All-cons, All-head, All-tail, All-push, All-filter, All-map, All-weaker}
+use Rattle.std.specs.Option.{option_map}
+use Rattle.std.proofs.lemmas.List.{get_or_default}
+use Rattle.std.proofs.lemmas.List.Edits.{map_over_more}
 use Rattle.queue_core.specs.declared.rows.Row.{Row}
-use Rattle.queue_core.specs.Rows.{Ascends, IsAbove, with_hold, entered}
+use Rattle.queue_core.specs.Rows.{Ascends, IsAbove, IsLeastReady, is_ready, first_ready}
 
 -- a row that is above all joins at the end
 pub Ascends-push : (rows : List Row) (row : Row) → Ascends rows → IsAbove rows row.copy → Ascends (rows ++ row ∷ [])
@@ -26,19 +27,21 @@ Ascends-map change same [] rising = tt
 Ascends-map change same (r ∷ rows) rising =
     (All-map (λ later. (change r).copy < later.copy) change rows (All-weaker (λ later. r.copy < later.copy) (λ later. (change r).copy < (change later).copy) (λ later below. rw (same r, same later) below) rows rising.0), Ascends-map change same rows rising.1)
 
-with_hold-other : (copy : ℕ) (hold : Hold) (row : Row) → row.copy ≢ copy → with_hold copy hold row ≡ row
-with_hold-other copy hold row differ = grind (arith, nat_tests)
+-- in rows by rising number the first that is ready is the least that is ready
+pub first_ready-least : (rows : List Row) (copy : ℕ) → Ascends rows → first_ready rows ≡ Some copy → IsLeastReady rows copy
+first_ready-least [] copy rising found = cc
+first_ready-least (r ∷ rows) copy rising found =
+    elim (is_ready r) as (λ b. is_ready r ≡ b → option_map (λ (row : Row). row.copy) (cond b (Some r) (find is_ready rows)) ≡ Some copy → IsLeastReady (r ∷ rows) copy) [
+      | true ↦ (λ ready is. let same : r.copy ≡ copy = cc in record {
+        ready = rw (eq-eqb r.copy copy same, ready) refl;
+        least = All-cons (λ row. is_ready row ≡ true → copy ≤ row.copy) r rows (λ _. omega arith) (All-weaker (λ later. r.copy < later.copy) (λ row. is_ready row ≡ true → copy ≤ row.copy) (λ later below _. omega arith) rows rising.0);
+      })
+      | false ↦ (λ held later. let rest = first_ready-least rows copy rising.1 later in record {
+        ready = grind (arith, nat_tests, rest.ready);
+        least = All-cons (λ row. is_ready row ≡ true → copy ≤ row.copy) r rows (λ ready. cc) rest.least;
+      })
+    ] refl found
 
-with_hold-itself : (hold : Hold) (row : Row) → with_hold row.copy hold row ≡ record row { hold = hold }
-with_hold-itself hold row = grind (arith, nat_tests)
-
--- one row's new hold is the change of that copy over all rows
-pub set-with_hold : (hold : Hold) (rows : List Row) (place : ℕ) (d : Row) → Ascends rows → place < length rows → set rows place (record (get_or rows place d) { hold = hold }) ≡ map (with_hold (get_or rows place d).copy hold) rows
-set-with_hold hold [] place d rising within = absurd (omega arith)
-set-with_hold hold (r ∷ rows) zero d rising within =
-    let rest : map (with_hold r.copy hold) rows ≡ rows = map_fixed (with_hold r.copy hold) rows (All-weaker (λ later. r.copy < later.copy) (λ later. with_hold r.copy hold later ≡ later) (λ later below. with_hold-other r.copy hold later (omega arith)) rows rising.0) in
-    sym (rw (rest, with_hold-itself hold r) refl)
-set-with_hold hold (r ∷ rows) (suc place) d rising within =
-    let below : place < length rows = omega arith in
-    let above : r.copy < (get_or rows place d).copy = All-get_or (λ later. r.copy < later.copy) rows place d below rising.0 in
-    rw (with_hold-other (get_or rows place d).copy hold r (omega arith)) (ap (λ rest. r ∷ rest) (set-with_hold hold rows place d rising.1 below))
+-- one more row is changed in place
+pub change_more : (change : Row → Row) (rows now : List Row) (i : ℕ) (d : Row) → i < length rows → i < length now → now ≡ map change (take i rows) ++ drop i rows → set now i (change (get_or now i d)) ≡ map change (take (i + 1) rows) ++ drop (i + 1) rows
+change_more change rows now i d within here is = map_over_more change rows now i (get_or now i d) within is (get_or_default now i d (get_or now i d) here)

@@ -55,7 +55,7 @@ pub record IsLeastReady (rows : List Row) (copy : ℕ) : Type 0 where
 
 -- A change of this copy's hold alone (AMQP 0-9-1, Content Ordering: the copies keep their places).
 abbrev pub with_hold : ℕ → Hold → Row → Row
-with_hold copy hold row = if row.copy == copy then record row { hold = hold } else row
+with_hold copy hold row = record row { hold = if row.copy == copy then hold else row.hold }
 
 -- This copy handed out to the holder (AMQP 0-9-1, Acknowledgements).
 abbrev pub handed : ℕ → Holder → List Row → List Row
@@ -66,22 +66,19 @@ abbrev pub released : ℕ → List Row → List Row
 released copy rows = map (with_hold copy Ready) rows
 
 -- What the holder held is ready again when its channel or connection closes (RabbitMQ, Confirms: Automatic Requeueing).
-abbrev pub release_held : Holder → Row → Row
-release_held holder row = if is_hold_of holder row.hold then record row { hold = Ready } else row
+abbrev pub freed : Holder → Hold → Hold
+freed holder hold = if is_hold_of holder hold then Ready else hold
 
 abbrev pub released_all : Holder → List Row → List Row
-released_all holder rows = map (release_held holder) rows
+released_all holder rows = map (λ (row : Row). record row { hold = freed holder row.hold }) rows
 
 -- The queue without this copy (AMQP 0-9-1, basic.ack).
 abbrev pub without : ℕ → List Row → List Row
 without copy rows = filter (λ row. not (row.copy == copy)) rows
 
 -- A flush stored each copy that is in the queue (RabbitMQ, Persistence Configuration).
-abbrev pub store_row : Row → Row
-store_row row = record row { stored = true }
-
 abbrev pub all_stored : List Row → List Row
-all_stored rows = map store_row rows
+all_stored rows = map (λ (row : Row). record row { stored = true }) rows
 
 -- Whether the copy is in the queue (AMQP 0-9-1, Message Queues).
 abbrev pub has : ℕ → List Row → Bool

@@ -1,4 +1,4 @@
-ghost use Rattle.std.specs.Prelude.{◌≡◌, ℕ, ◌≤◌, ◌<◌, ◌↔◌, [], ◌∷◌, ◌++◌, All, filter, map, count_by, length, IsTrue, IsNone, IfSome, IfNone, OnOk, OnErr};
+ghost use Rattle.std.specs.Prelude.{◌≡◌, ◌==◌, ℕ, ◌≤◌, ◌<◌, ◌↔◌, [], ◌∷◌, ◌++◌, All, filter, map, find, count_by, length, IsTrue, IsNone, IfSome, IfNone, OnOk, OnErr};
 ghost use Rattle.queue_core.specs.Rows.{Ascends, IsAbove, IsLeastReady, with_hold, is_ready, is_held, entered, first_ready, handed, released, released_all, without, all_stored, has, has_held, holder_of, has_stored, copy_at};
 
 use crate::rows::{CopyNo, Hold, Holder, Row};
@@ -58,8 +58,9 @@ impl Queue {
         ensures held { IfSome result (λ copy. self.new ≡ handed copy holder self.old) }
         ensures none { IfNone result (self.new ≡ self.old) }
     {
-        let place = self.rows.iter().position(|row| row.hold == Hold::Ready)?;
-        Some(set_hold(&mut self.rows, place, Hold::Held(holder)))
+        let copy = self.first_ready()?;
+        set_hold(&mut self.rows, copy, Hold::Held(holder));
+        Some(copy)
     }
 
     /// Removes the copy; false exactly where it isn't there.
@@ -68,7 +69,7 @@ impl Queue {
         ensures left { self.new ≡ without copy self.old }
     {
         let there = self.rows.iter().any(|row| row.copy == copy);
-        self.rows.retain(|row| row.copy != copy);
+        remove(&mut self.rows, copy);
         there
     }
 
@@ -80,25 +81,16 @@ impl Queue {
         let held = self
             .rows
             .iter()
-            .position(|row| row.copy == copy && row.hold != Hold::Ready);
-        match held {
-            None => false,
-            Some(place) => {
-                set_hold(&mut self.rows, place, Hold::Ready);
-                true
-            }
-        }
+            .any(|row| row.copy == copy && row.hold != Hold::Ready);
+        set_hold(&mut self.rows, copy, Hold::Ready);
+        held
     }
 
     /// Makes each copy ready again that the holder holds, at its place.
     pub fn release_all(&mut self, holder: Holder)
         ensures { self.new ≡ released_all holder self.old }
     {
-        for row in self.rows.iter_mut() {
-            if row.hold == Hold::Held(holder) {
-                row.hold = Hold::Ready;
-            }
-        }
+        free_all(&mut self.rows, holder);
     }
 
     /// Removes each ready copy, and gives how many there were.
@@ -107,7 +99,7 @@ impl Queue {
         ensures held { self.new ≡ filter is_held self.old }
     {
         let purged = self.ready();
-        self.rows.retain(|row| row.hold != Hold::Ready);
+        remove_ready(&mut self.rows);
         purged
     }
 
@@ -150,8 +142,7 @@ impl Queue {
     pub fn holder(&self, copy: CopyNo) -> Option<Holder>
         ensures { result ≡ holder_of copy self.now }
     {
-        let row = self.rows.iter().find(|row| row.copy == copy)?;
-        row.hold.holder()
+        row_of(&self.rows, copy)?.hold.holder()
     }
 
     /// Whether a flush came after the copy entered; false where it isn't there.
@@ -165,20 +156,116 @@ impl Queue {
     pub fn mark_stored(&mut self)
         ensures { self.new ≡ all_stored self.old }
     {
-        for row in self.rows.iter_mut() {
-            row.stored = true;
-        }
+        store_all(&mut self.rows);
     }
 }
 
-/// Sets who holds the copy at a place, and gives its number.
-fn set_hold(rows: &mut [Row], place: usize, hold: Hold) -> CopyNo
-    requires within { place < length rows.old }
-    requires rising { Ascends rows.old }
-    ensures copy { copy_at rows.old place ≡ Some result }
-    ensures held { rows.new ≡ map (with_hold result hold) rows.old }
+/// The row of the copy, if it is there.
+fn row_of(rows: &[Row], copy: CopyNo) -> Option<Row>
+    ensures { result ≡ find (λ row. row.copy == copy) rows.now }
 {
-    let row = &mut rows[place];
-    row.hold = hold;
-    row.copy
+    for row in rows {
+        if row.copy == copy {
+            return Some(*row);
+        }
+    }
+    None
+}
+
+/// Sets who holds the copy.
+fn set_hold(rows: &mut Vec<Row>, copy: CopyNo, hold: Hold)
+    ensures { rows.new.items ≡ map (with_hold copy hold) rows.old.items }
+{
+    for row in rows.iter_mut() {
+        row.hold = if row.copy == copy { hold } else { row.hold };
+    }
+}
+
+/// Frees what the holder holds.
+fn free_all(rows: &mut Vec<Row>, holder: Holder)
+    ensures { rows.new.items ≡ released_all holder rows.old.items }
+{
+    for row in rows.iter_mut() {
+        row.hold = row.hold.freed(holder);
+    }
+}
+
+/// Marks each row as stored.
+fn store_all(rows: &mut Vec<Row>)
+    ensures { rows.new.items ≡ all_stored rows.old.items }
+{
+    for row in rows.iter_mut() {
+        row.stored = true;
+    }
+}
+
+/// Removes the copy's row.
+fn remove(rows: &mut Vec<Row>, copy: CopyNo)
+    ensures { rows.new.items ≡ without copy rows.old.items }
+{
+    rows.retain(|row| row.copy != copy);
+}
+
+/// Removes each row that is ready.
+fn remove_ready(rows: &mut Vec<Row>)
+    ensures { rows.new.items ≡ filter is_held rows.old.items }
+{
+    rows.retain(|row| row.hold != Hold::Ready);
+}
+
+#[cfg(test)]
+mod tests {
+    use super::*;
+    use std::test::Fail;
+
+    /// The session of a shovel.
+    const SESSION: Holder = Holder {
+        link: true,
+        number: 0,
+        part: 1,
+    };
+
+    /// A stored copy is handed to a shovel, which the listing shows as `0 1 1+!`, and leaves when it is settled.
+    #[test]
+    fn one_shovel_one_message(rt: HostRuntime) -> Result<(), Fail> {
+        let mut queue = Queue::new(rt.alloc());
+        queue.enter(1)?;
+        queue.mark_stored();
+        assert_eq!(rt; queue.first_ready(), Some(1));
+        assert_eq!(rt; queue.hand(SESSION), Some(1));
+        assert_eq!(rt; queue.ready(), 0);
+        assert_eq!(rt; queue.count(), 1);
+        assert_eq!(rt; queue.at(0), Some(1));
+        assert!(rt; queue.is_stored(1));
+        assert_eq!(rt; queue.holder(1), Some(SESSION));
+        assert!(rt; queue.leave(1));
+        assert_eq!(rt; queue.count(), 0);
+        Ok(())
+    }
+
+    /// The copy of a session that is lost is ready again, which the listing shows as `1 0 1+`.
+    #[test]
+    fn crash_after_confirm(rt: HostRuntime) -> Result<(), Fail> {
+        let mut queue = Queue::new(rt.alloc());
+        queue.enter(1)?;
+        queue.mark_stored();
+        assert_eq!(rt; queue.hand(SESSION), Some(1));
+        queue.release_all(SESSION);
+        assert_eq!(rt; queue.ready(), 1);
+        assert_eq!(rt; queue.hand(SESSION), Some(1));
+        Ok(())
+    }
+
+    /// A requeued copy is ready at its place; a purge takes what is ready alone.
+    #[test]
+    fn requeue_and_purge(rt: HostRuntime) -> Result<(), Fail> {
+        let mut queue = Queue::new(rt.alloc());
+        queue.enter(1)?;
+        assert_eq!(rt; queue.hand(SESSION), Some(1));
+        assert!(rt; queue.release(1));
+        assert!(rt; !queue.release(1));
+        assert_eq!(rt; queue.purge(), 1);
+        assert_eq!(rt; queue.count(), 0);
+        Ok(())
+    }
 }

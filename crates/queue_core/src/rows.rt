@@ -1,5 +1,5 @@
 ghost use Rattle.std.specs.Prelude.{◌≡◌};
-ghost use Rattle.queue_core.specs.Rows.{holder_in};
+ghost use Rattle.queue_core.specs.Rows.{holder_in, freed};
 
 /// The number of a copy: copies are numbered from 1 over all queues, in the order in which they enter.
 pub type CopyNo = u64;
@@ -32,6 +32,17 @@ impl Hold {
         match self {
             Hold::Ready => None,
             Hold::Held(holder) => Some(holder),
+        }
+    }
+
+    /// The hold once the holder holds nothing any more.
+    pub fn freed(self, holder: Holder) -> Hold
+        ensures { result ≡ freed holder self }
+    {
+        if self == Hold::Held(holder) {
+            Hold::Ready
+        } else {
+            self
         }
     }
 }
