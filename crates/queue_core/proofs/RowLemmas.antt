@@ -1,6 +1,6 @@
 -- What keeps the rows of a queue in their order, and what one row's change is over all rows.
-use Rattle.std.proofs.Common.{◌≡◌, ◌≢◌, ℕ, ◌+◌, ◌<◌, ◌≤◌, Bool, true, false, cond, List, [], ◌∷◌, ◌++◌, Option, Some, None, length, get_or, set, take, drop, refl, sym, ◌∙◌, ap, subst, arith, eqb, eq-eqb}
-use Rattle.std.specs.Prelude.{All, map, filter, find, if◌then◌else◌}
+use Rattle.std.proofs.Common.{◌≡◌, ℕ, ◌+◌, ◌<◌, ◌≤◌, Bool, true, false, cond, List, [], ◌∷◌, ◌++◌, Some, length, get_or, set, take, drop, refl, arith, eq-eqb}
+use Rattle.std.specs.Prelude.{map, filter, find}
 use Rattle.std.proofs.lemmas.Bool.Decides.{nat_tests}
 use Rattle.std.proofs.lemmas.List.Elements.{All-nil, All-cons, All-head, All-tail, All-push, All-filter, All-map, All-weaker}
 use Rattle.std.specs.Option.{option_map}

@@ -1,8 +1,7 @@
 use Rattle.std.proofs.Common.{arith}
 use Rattle.std.proofs.lemmas.Grind.{common_steps}
 use Rattle.std.proofs.lemmas.List.Edits.{map_over_more}
-use Rattle.queue_core.specs.declared.rows.Row.{Row}
-use Rattle.queue_core.specs.Rows.{with_hold, freed}
+use Rattle.queue_core.specs.Rows.{with_hold}
 use Rattle.queue_core.proofs.queue.set_hold.Goals as goal
 
 pub loop-row-preserved : goal.loop-row-preserved

@@ -1,6 +1,6 @@
 use Rattle.std.proofs.Common.{◌≡◌, ◌++◌, take, drop}
 use Rattle.std.specs.Prelude.{map}
-use Rattle.queue_core.specs.Rows.{with_hold, released_all, all_stored}
+use Rattle.queue_core.specs.Rows.{with_hold}
 use Rattle.queue_core.proofs.queue.set_hold.Given as goal
 
 abbrev pub invariant-loop-row : goal.invariant-loop-row
