@@ -1,13 +1,7 @@
-// A library with one function.
+//! What the publisher confirms of a broker wait for: each open publication, with the copies that are not stored yet.
 #![tactic(auto)]
 
-ghost use Rattle.std.specs.Prelude.{◌≡◌};
-ghost use Rattle.confirm_core.specs.Echo.{echo_of};
+mod ledger;
+mod publication;
 
-// The `ensures` clause is the contract: what `echo` returns is `echo_of` of its argument, a definition
-// in `specs/Echo.antt`, which a caller's clause can cite too.
-pub fn echo(x: usize) -> usize
-    ensures { result ≡ echo_of x }
-{
-    x
-}
+pub use ledger::Ledger;
