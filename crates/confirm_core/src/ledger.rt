@@ -123,3 +123,37 @@ fn remove(publications: &mut Vec<Publication>, number: u64)
 {
     publications.retain(|publication| publication.number() != number);
 }
+
+#[cfg(test)]
+mod tests {
+    use super::*;
+    use std::test::Fail;
+
+    /// The copy that a shovel made is stored by the flush, and then its publication is confirmed.
+    #[test]
+    fn one_shovel_one_message(rt: HostRuntime) -> Result<(), Fail> {
+        let mut ledger = Ledger::new(rt.alloc());
+        ledger.open(1, &[])?;
+        assert_eq!(rt; ledger.next_ready(), Some(1));
+        assert!(rt; ledger.answered(1));
+        ledger.open(2, &[2])?;
+        assert_eq!(rt; ledger.next_ready(), None);
+        ledger.stored(2);
+        assert_eq!(rt; ledger.next_ready(), Some(2));
+        assert!(rt; ledger.answered(2));
+        assert!(rt; !ledger.answered(2));
+        Ok(())
+    }
+
+    /// A publication into two queues waits for each copy; one was stored, and one was acknowledged before.
+    #[test]
+    fn stored_or_released(rt: HostRuntime) -> Result<(), Fail> {
+        let mut ledger = Ledger::new(rt.alloc());
+        ledger.open(1, &[1, 2])?;
+        ledger.left(2);
+        assert_eq!(rt; ledger.next_ready(), None);
+        ledger.stored(1);
+        assert_eq!(rt; ledger.next_ready(), Some(1));
+        Ok(())
+    }
+}
