@@ -1,13 +1,8 @@
-// A library with one function.
+//! What a broker keeps of one channel: its delivery tags, the prefetch windows, and what is unacknowledged.
 #![tactic(auto)]
 
-ghost use Rattle.std.specs.Prelude.{◌≡◌};
-ghost use Rattle.broker_channels.specs.Echo.{echo_of};
+mod channel;
+mod delivery;
 
-// The `ensures` clause is the contract: what `echo` returns is `echo_of` of its argument, a definition
-// in `specs/Echo.antt`, which a caller's clause can cite too.
-pub fn echo(x: usize) -> usize
-    ensures { result ≡ echo_of x }
-{
-    x
-}
+pub use channel::{Channel, SettleFault};
+pub use delivery::{Consumer, CopyNo, Delivery};
