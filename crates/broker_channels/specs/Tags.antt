@@ -50,11 +50,12 @@ with_delivery copy consumer channel =
       reserved = false;
     }
 
--- A delivery counts in the window of its consumer (RabbitMQ, Consumer Prefetch).
+-- The consumer of a delivery is this one; one to basic.get has none (AMQP 0-9-1, basic.deliver: consumer-tag).
 abbrev pub is_of : ℕ → Option ℕ → Bool
 is_of number None = false
 is_of number (Some other) = other == number
 
+-- A delivery counts in the window of its consumer (RabbitMQ, Consumer Prefetch).
 abbrev pub is_to : ℕ → Delivery → Bool
 is_to number delivery = is_of number delivery.consumer
 

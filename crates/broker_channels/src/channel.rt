@@ -45,9 +45,22 @@ impl Model for Channel {
 
     ghost Value = { Deliveries };
 
-    ghost view = { λ c. record { last_tag = c.last_tag; prefetch = c.prefetch; window = c.window; consumers = c.consumers.items; unacknowledged = c.unacknowledged.items; reserved = c.reserved } };
+    ghost view = { λ c. record {
+      last_tag = c.last_tag;
+      prefetch = c.prefetch;
+      window = c.window;
+      consumers = c.consumers.items;
+      unacknowledged = c.unacknowledged.items;
+      reserved = c.reserved;
+    } };
 
-    ghost invariant = { λ c. Rises c.unacknowledged.items × All (λ delivery. delivery.tag ≤ c.last_tag) c.unacknowledged.items × (c.reserved ≡ true → (c.last_tag + 1 < 2 ^ 64) × (vec_len c.consumers < vec_capacity c.consumers) × (vec_len c.unacknowledged < vec_capacity c.unacknowledged)) };
+    // Tags rise up to the last one, and what is reserved has room for one more of each.
+    ghost invariant = { λ c. Rises c.unacknowledged.items
+        × All (λ delivery. delivery.tag ≤ c.last_tag) c.unacknowledged.items
+        × (c.reserved ≡ true
+        → (c.last_tag + 1 < 2 ^ 64)
+        × (vec_len c.consumers < vec_capacity c.consumers)
+        × (vec_len c.unacknowledged < vec_capacity c.unacknowledged)) };
 }
 
 impl Channel {

@@ -21,6 +21,7 @@ waits_for_nothing publication = length publication.waits == 0
 abbrev pub without_wait : ℕ → Unconfirmed → Unconfirmed
 without_wait copy publication = record publication { waits = filter (λ wait. not (wait == copy)) publication.waits }
 
+-- Each publication without that wait (RabbitMQ, Confirms: When Will Published Messages Be Confirmed by the Broker?).
 abbrev pub released : ℕ → List Unconfirmed → List Unconfirmed
 released copy ledger = map (without_wait copy) ledger
 

@@ -21,14 +21,16 @@ abbrev pub holder_in : Hold → Option Holder
 holder_in Ready = None
 holder_in (Held holder) = Some holder
 
--- A copy is ready for a hand-out where nobody holds it (RabbitMQ, Queues: Message States).
+-- Nobody holds a copy in this state (RabbitMQ, Queues: Message States).
 abbrev pub is_ready_hold : Hold → Bool
 is_ready_hold Ready = true
 is_ready_hold (Held _) = false
 
+-- A copy is ready for a hand-out where nobody holds it (RabbitMQ, Queues: Message States).
 abbrev pub is_ready : Row → Bool
 is_ready row = is_ready_hold row.hold
 
+-- A copy that isn't ready was handed out and is unacknowledged (RabbitMQ, Queues: Message States).
 abbrev pub is_held : Row → Bool
 is_held row = not (is_ready row)
 
@@ -36,6 +38,7 @@ is_held row = not (is_ready row)
 abbrev pub same_holder : Holder → Holder → Bool
 same_holder a b = (beq a.link b.link && (a.number == b.number)) && (a.part == b.part)
 
+-- This holder holds a copy in this state (RabbitMQ, Consumers: Basics).
 abbrev pub is_hold_of : Holder → Hold → Bool
 is_hold_of holder Ready = false
 is_hold_of holder (Held other) = same_holder holder other
@@ -61,14 +64,16 @@ with_hold copy hold row = record row { hold = if row.copy == copy then hold else
 abbrev pub handed : ℕ → Holder → List Row → List Row
 handed copy holder rows = map (with_hold copy (Held holder)) rows
 
--- This copy ready again at its original position (RabbitMQ, Confirms: Negative Acknowledgement and Requeuing).
+-- This copy ready again at its original position (RabbitMQ, Confirms: Negative Acknowledgement and Requeuing of Deliveries).
 abbrev pub released : ℕ → List Row → List Row
 released copy rows = map (with_hold copy Ready) rows
 
--- What the holder held is ready again when its channel or connection closes (RabbitMQ, Confirms: Automatic Requeueing).
+-- The state of a copy once the holder holds nothing any more (RabbitMQ, Confirms: Automatic Requeueing of Deliveries).
 abbrev pub freed : Holder → Hold → Hold
 freed holder hold = if is_hold_of holder hold then Ready else hold
 
+-- What the holder held is ready again when its channel or connection closes
+-- (RabbitMQ, Confirms: Automatic Requeueing of Deliveries).
 abbrev pub released_all : Holder → List Row → List Row
 released_all holder rows = map (λ (row : Row). record row { hold = freed holder row.hold }) rows
 

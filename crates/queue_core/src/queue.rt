@@ -6,7 +6,7 @@ use std::alloc::{AllocError, Global};
 use std::marker::Model;
 
 /// The copies of one queue, by rising number.
-#[derive(Debug, Drop)]
+#[derive(Drop)]
 pub struct Queue {
     rows: Vec<Row>,
 }

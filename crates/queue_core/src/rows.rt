@@ -16,7 +16,7 @@ pub struct Holder {
 }
 
 /// Whether a copy waits for a hand-out, or was handed out and is not settled yet.
-#[derive(Clone, Copy, Debug, PartialEq, Eq)]
+#[derive(Clone, Copy, PartialEq, Eq)]
 pub enum Hold {
     /// Ready for a hand-out.
     Ready,
@@ -48,7 +48,7 @@ impl Hold {
 }
 
 /// One copy of a queue, as contracts see it.
-#[derive(Clone, Copy, Debug)]
+#[derive(Clone, Copy)]
 pub struct Row {
     /// The copy's number.
     pub copy: CopyNo,
