@@ -1,8 +1,8 @@
-ghost use Rattle.std.specs.Prelude.{◌≡◌, ◌==◌, ℕ, ◌+◌, ◌<◌, ◌≤◌, ◌++◌, Bool, true, false, not, Some, None, find, filter, map, count_by, IsOk, IfOk, OnOk, OnErr, IsOkUnless, vec_len, vec_capacity};
+ghost use Rattle.std.specs.Prelude.{◌≡◌, ◌==◌, ◌+◌, ◌≤◌, ◌++◌, true, false, Some, None, count_by, IsOk, IfOk, OnOk, OnErr, IsOkUnless, vec_len, vec_capacity};
 ghost use Rattle.std.specs.List.{list_any};
 ghost use Rattle.broker_channels.specs.declared.delivery.Delivery.{Delivery};
 ghost use Rattle.broker_channels.specs.declared.channel.SettleFault.TheVariants.{Memory};
-ghost use Rattle.broker_channels.specs.Tags.{Deliveries, Rises, opened, with_qos, is_known, with_consumer, with_delivery, is_to, is_pushed, is_full, window_of, has_room, is_outstanding, is_settled, settled_copies, unsettled};
+ghost use Rattle.broker_channels.specs.Tags.{Rises, opened, with_qos, is_known, with_consumer, with_delivery, is_to, is_pushed, is_full, window_of, has_room, is_outstanding, settled_copies, unsettled};
 
 use crate::delivery::{Consumer, CopyNo, Delivery};
 use std::alloc::{AllocError, Global};

@@ -1,4 +1,4 @@
-ghost use Rattle.std.specs.Prelude.{◌≡◌, ◌≤◌, false, [], ◌∷◌, ◌++◌, Some, All, IfSome, OnOk, OnErr, min};
+ghost use Rattle.std.specs.Prelude.{◌≡◌, false, [], ◌∷◌, ◌++◌, Some, OnOk, OnErr, min};
 ghost use Rattle.std.specs.Option.{option_map_or};
 ghost use Rattle.confirm_core.specs.Waits.{is_open, released, without, ready_numbers, least};
 

@@ -1,4 +1,4 @@
-ghost use Rattle.std.specs.Prelude.{◌≡◌, ◌==◌, ℕ, ◌≤◌, ◌<◌, ◌↔◌, [], ◌∷◌, ◌++◌, All, filter, map, find, count_by, length, IsTrue, IsNone, IfSome, IfNone, OnOk, OnErr};
+ghost use Rattle.std.specs.Prelude.{◌≡◌, ◌==◌, ◌≤◌, ◌<◌, ◌↔◌, [], ◌∷◌, ◌++◌, filter, map, find, count_by, length, IsNone, IfSome, IfNone, OnOk, OnErr};
 ghost use Rattle.queue_core.specs.Rows.{Ascends, IsAbove, IsLeastReady, with_hold, is_ready, is_held, entered, first_ready, handed, released, released_all, without, all_stored, has, has_held, holder_of, has_stored, copy_at};
 
 use crate::rows::{CopyNo, Hold, Holder, Row};
