@@ -1,5 +1,5 @@
 -- What the listing says of links.
-use Rattle.std.specs.Prelude.{ℕ, List, [], ◌∷◌, ◌++◌, length, codes}
+use Rattle.std.specs.Prelude.{ℕ, List, ◌++◌, length, codes}
 use Rattle.std.specs.Fmt.{decimal}
 use Rattle.fed_journal.specs.declared.entry.Entry.{Entry}
 use Rattle.fed_journal.specs.declared.link.LinkSpec.{LinkSpec}
@@ -11,22 +11,23 @@ use Rattle.fed_journal.specs.Flight.{flight_took, flight_sent, flight_published,
 use Rattle.fed_journal.specs.Phases.{phase, session}
 use Rattle.fed_status.specs.declared.link_line.FlightCounts.{FlightCounts}
 
--- how much the last session has in each stage; no stage outlives it. Bindings are not told yet.
+-- how much the last session has in each stage, where it is open; a shovel tells no bindings (RabbitMQ, Shovel: how it works)
 abbrev pub counts_in : List Entry → List ℕ → ℕ → Phase → FlightCounts
 counts_in J l s Gone = record { taken = 0; sent = 0; waiting = 0; confirmed = 0; noted = 0; told = 0 }
 counts_in J l s Open = record {
-    taken = length (flight_took J l s);
-    sent = length (flight_sent J l s);
-    waiting = length (flight_published J l s);
-    confirmed = length (flight_confirmed J l s);
-    noted = length (flight_noted J l s);
-    told = 0
-  }
+  taken = length (flight_took J l s);
+  sent = length (flight_sent J l s);
+  waiting = length (flight_published J l s);
+  confirmed = length (flight_confirmed J l s);
+  noted = length (flight_noted J l s);
+  told = 0;
+}
 
+-- the stages of the link's last session
 unfoldable pub flight_counts : List Entry → List ℕ → FlightCounts
 flight_counts J l = counts_in J l (session J l) (phase J l)
 
--- the words `gone` and `open` are those of a link's status (RabbitMQ, Shovel: monitoring)
+-- whether both ends of the last session live
 abbrev pub phase_word : Phase → List ℕ
 phase_word Gone = codes "gone"
 phase_word Open = codes "open"

@@ -6,7 +6,9 @@ use fed_journal::entry::Entry;
 use fed_journal::link::{LinkSpec, Phase, StartState};
 use fed_journal::page::Page;
 use fed_journal::text::Text;
-use journal_scan::flight::{flight_confirmed, flight_noted, flight_published, flight_sent, flight_took};
+use journal_scan::flight::{
+    flight_confirmed, flight_noted, flight_published, flight_sent, flight_took,
+};
 use journal_scan::phases::{phase, session};
 use std::alloc::{AllocError, Global};
 
@@ -28,7 +30,12 @@ pub struct FlightCounts {
 }
 
 /// The stages of an open session.
-fn open_counts(alloc: Global, journal: &[Entry], link: &Text, session: u32) -> Result<FlightCounts, AllocError>
+fn open_counts(
+    alloc: Global,
+    journal: &[Entry],
+    link: &Text,
+    session: u32,
+) -> Result<FlightCounts, AllocError>
     ensures { IfOk result (λ counts. counts ≡ counts_in journal.now link.now session Phase.Open) }
 {
     let taken = flight_took(alloc, journal, link, session)?.len() as u64;
@@ -48,7 +55,11 @@ fn open_counts(alloc: Global, journal: &[Entry], link: &Text, session: u32) -> R
 
 /// How much the link's last session has in each stage.
 #[tactic(auto, unfolding(crate::specs::Links::flight_counts))]
-pub fn flight_counts(alloc: Global, journal: &[Entry], link: &Text) -> Result<FlightCounts, AllocError>
+pub fn flight_counts(
+    alloc: Global,
+    journal: &[Entry],
+    link: &Text,
+) -> Result<FlightCounts, AllocError>
     ensures { IfOk result (λ counts. counts ≡ flight_counts journal.now link.now) }
 {
     match phase(journal, link) {
@@ -97,7 +108,12 @@ fn push_counts(counts: FlightCounts, page: &mut Page) -> Result<(), AllocError>
 
 /// Appends what a link that can start is doing.
 #[tactic(auto, unfolding(crate::specs::Links::session_words))]
-fn push_session(alloc: Global, journal: &[Entry], link: &Text, page: &mut Page) -> Result<(), AllocError>
+fn push_session(
+    alloc: Global,
+    journal: &[Entry],
+    link: &Text,
+    page: &mut Page,
+) -> Result<(), AllocError>
     ensures { OnOk result (page.new ≡ page.old ++ session_words journal.now link.now) }
 {
     let counts = flight_counts(alloc, journal, link)?;
@@ -107,7 +123,12 @@ fn push_session(alloc: Global, journal: &[Entry], link: &Text, page: &mut Page) 
 }
 
 /// Appends the link's state.
-fn push_state(alloc: Global, journal: &[Entry], spec: &LinkSpec, page: &mut Page) -> Result<(), AllocError>
+fn push_state(
+    alloc: Global,
+    journal: &[Entry],
+    spec: &LinkSpec,
+    page: &mut Page,
+) -> Result<(), AllocError>
     ensures { OnOk result (page.new ≡ page.old ++ state_words journal.now spec.now.name spec.now.start) }
 {
     match spec.start {
@@ -119,7 +140,12 @@ fn push_state(alloc: Global, journal: &[Entry], spec: &LinkSpec, page: &mut Page
 
 /// Appends the line of a link.
 #[tactic(auto, unfolding(crate::specs::Links::link_line))]
-pub fn push_link_line(alloc: Global, journal: &[Entry], spec: &LinkSpec, page: &mut Page) -> Result<(), AllocError>
+pub fn push_link_line(
+    alloc: Global,
+    journal: &[Entry],
+    spec: &LinkSpec,
+    page: &mut Page,
+) -> Result<(), AllocError>
     ensures { OnOk result (page.new ≡ page.old ++ link_line journal.now spec.now) }
 {
     page.push("link ")?;

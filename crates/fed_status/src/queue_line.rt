@@ -14,17 +14,32 @@ use std::alloc::{AllocError, Global};
 
 /// How many copies of the queue are handed out and not acknowledged.
 #[tactic(auto, unfolding(crate::specs::Queues::held_count))]
-fn held_count(alloc: Global, journal: &[Entry], place: &Place, queue: &Text) -> Result<usize, AllocError>
+fn held_count(
+    alloc: Global,
+    journal: &[Entry],
+    place: &Place,
+    queue: &Text,
+) -> Result<usize, AllocError>
     requires { All IsNumbered journal.now }
     ensures { IfOk result (λ count. count ≡ held_count journal.now place.now queue.now) }
 {
     let copies = entered(alloc, journal, place, queue)?;
-    Ok(copies.iter().filter(|copy| is_held(journal, **copy)).count())
+    Ok(
+        copies
+            .iter()
+            .filter(|copy| is_held(journal, **copy))
+            .count(),
+    )
 }
 
 /// The copies that are in the queue, by rising number.
 #[tactic(auto, unfolding(crate::specs::Queues::queued, fed_journal::specs::Copies::entered))]
-fn queued(alloc: Global, journal: &[Entry], place: &Place, queue: &Text) -> Result<Vec<u64>, AllocError>
+fn queued(
+    alloc: Global,
+    journal: &[Entry],
+    place: &Place,
+    queue: &Text,
+) -> Result<Vec<u64>, AllocError>
     requires { All IsNumbered journal.now }
     ensures { IfOk result (λ copies. copies.items ≡ queued journal.now place.now queue.now) }
 {
@@ -68,7 +83,13 @@ fn push_copies(journal: &[Entry], copies: &[u64], page: &mut Page) -> Result<(),
 
 /// Appends the line of a queue.
 #[tactic(auto, unfolding(crate::specs::Queues::queue_line))]
-fn push_queue_line(alloc: Global, journal: &[Entry], place: &Place, queue: &Text, page: &mut Page) -> Result<(), AllocError>
+fn push_queue_line(
+    alloc: Global,
+    journal: &[Entry],
+    place: &Place,
+    queue: &Text,
+    page: &mut Page,
+) -> Result<(), AllocError>
     requires { All IsNumbered journal.now }
     ensures { OnOk result (page.new ≡ page.old ++ queue_line journal.now place.now queue.now) }
 {
@@ -88,19 +109,34 @@ fn push_queue_line(alloc: Global, journal: &[Entry], place: &Place, queue: &Text
 }
 
 /// Appends the line of the queue that the entry made at the place, if it made one.
-fn push_queue_made(alloc: Global, journal: &[Entry], place: &Place, entry: &Entry, page: &mut Page) -> Result<(), AllocError>
+fn push_queue_made(
+    alloc: Global,
+    journal: &[Entry],
+    place: &Place,
+    entry: &Entry,
+    page: &mut Page,
+) -> Result<(), AllocError>
     requires { All IsNumbered journal.now }
     ensures { OnOk result (page.new ≡ page.old ++ flat_map (queue_line journal.now place.now) (option_to_list (queue_made place.now entry.now))) }
 {
     match entry {
-        Entry::MadeQueue { place: at, queue, .. } if at == place => push_queue_line(alloc, journal, place, queue, page),
+        Entry::MadeQueue {
+            place: at,
+            queue,
+            ..
+        } if at == place => push_queue_line(alloc, journal, place, queue, page),
         _ => Ok(()),
     }
 }
 
 /// Appends the lines of the place's queues, in the order of their declarations.
 #[tactic(auto, unfolding(crate::specs::Queues::queue_lines, crate::specs::Queues::queues_of))]
-pub fn push_queue_lines(alloc: Global, journal: &[Entry], place: &Place, page: &mut Page) -> Result<(), AllocError>
+pub fn push_queue_lines(
+    alloc: Global,
+    journal: &[Entry],
+    place: &Place,
+    page: &mut Page,
+) -> Result<(), AllocError>
     requires { All IsNumbered journal.now }
     ensures { OnOk result (page.new ≡ page.old ++ queue_lines journal.now place.now) }
 {
