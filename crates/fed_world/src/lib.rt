@@ -4,3 +4,4 @@
 pub mod reason;
 pub mod row;
 pub mod rows;
+pub mod world;
