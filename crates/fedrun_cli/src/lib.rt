@@ -1,0 +1,4 @@
+//! The commands of `fedrun`: what its words ask for, what it prints and how it ends.
+#![tactic(auto)]
+
+mod report;
