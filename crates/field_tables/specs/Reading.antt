@@ -146,12 +146,13 @@ content_at value (kinds.Counted kind) bytes = do
 
 -- A value of at most so many levels; the octet of a value below them is a fault.
 unfoldable pub value_at : ℕ → List ℕ → Result (Field × List ℕ) TableFault
-value_at zero [] = Err faults.Short
-value_at (suc d) [] = Err faults.Short
-value_at zero (b ∷ bytes) = Err faults.Deep
-value_at (suc d) (b ∷ bytes) = do
-  kind ← kind_at b
-  content_at (value_at d) kind bytes
+value_at zero bytes = do
+  x ← octet_at bytes
+  Err faults.Deep
+value_at (suc d) bytes = do
+  x ← octet_at bytes
+  kind ← kind_at x.0
+  content_at (value_at d) kind x.1
 
 -- A table, and the number of its octets.
 unfoldable pub table_at : List ℕ → Result (Pairs × ℕ) TableFault

@@ -1,0 +1,4 @@
+pub mod Loops
+pub mod Octets
+pub mod Values
+pub mod Views
