@@ -1,4 +1,5 @@
 pub mod Loops
 pub mod Octets
+pub mod Patches
 pub mod Values
 pub mod Views

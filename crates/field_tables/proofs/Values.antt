@@ -1,9 +1,10 @@
 -- A value that is read is the value that was written, and what was written is read again.
-use Rattle.std.proofs.Common.{◌≡◌, ℕ, ℤ, zero, suc, ◌+◌, ◌-◌, ◌^◌, ◌<◌, ◌≤◌, Bool, true, false, cond, eqb, List, [], ◌∷◌, ◌++◌, length, Result, Ok, Err, refl, sym, ap, ap₂, subst, ◌∙◌, ◌⊎◌, inl, inr, append_assoc, arith}
+use Rattle.std.proofs.Common.{◌≡◌, ℕ, ℤ, zero, suc, ◌+◌, ◌-◌, ◌^◌, ◌<◌, ◌≤◌, Bool, true, false, cond, eqb, List, [], ◌∷◌, ◌++◌, length, take, Result, Ok, Err, refl, sym, ap, ap₂, subst, ◌∙◌, ◌⊎◌, inl, inr, append_assoc, arith}
+use Rattle.std.specs.Prelude.{IfOk}
 use Rattle.std.specs.Int.{w8, w16, w32, w64, to_be_bytes, cast_unsigned}
 use Rattle.std.specs.Int.RustNames.{FitsSigned}
 use Rattle.std.proofs.lemmas.Bool.{eqb-true}
-use Rattle.std.proofs.lemmas.List.{append-nil, length-append}
+use Rattle.std.proofs.lemmas.List.{length-append, take_at}
 use Rattle.field_tables.specs.declared.fault.TableFault.{TableFault}
 use Rattle.field_tables.specs.declared.fault.TableFault.TheVariants as faults
 use Rattle.field_tables.specs.declared.kind.Kind.{Kind}
@@ -13,9 +14,10 @@ use Rattle.field_tables.specs.declared.kind.Counted.TheVariants as counted
 use Rattle.field_tables.specs.declared.kind.Fixed as fixed_kind
 use Rattle.field_tables.specs.declared.kind.Fixed.TheVariants as fixed
 use Rattle.field_tables.specs.Fields.{Field, boolean, signed_octet, octet, signed_short, short, signed_long, long, signed_longlong, float, double, decimal, long_string, array, timestamp, table, void, byte_array, Fields, no_fields, field, Pairs, no_pairs, pair}
-use Rattle.field_tables.specs.View.{fields_of, pairs_of}
+use Rattle.field_tables.specs.View.{fields_of, pairs_of, table_view}
+use Rattle.field_tables.specs.declared.value.Table.{Table}
 use Rattle.field_tables.specs.Tables.{max_depth, kind_octet, kind_of, typed, content_spelling, value_spelling, fields_spelling, pairs_spelling, table_spelling, name_spelling, counted_spelling, depth, fields_depth, pairs_depth, IsCounted, IsName, HasSpelling, HaveSpelling, ArePairs, IsTable}
-use Rattle.field_tables.specs.Reading.{◌>>=◌, as_field, octet_at, octets_at, number_at, signed, boolean_at, counted_at, name_at, named_kind, all_kinds, kind_at, fields_at, pairs_at, fixed_at, inside_at, content_at, value_at, table_at}
+use Rattle.field_tables.specs.Reading.{◌>>=◌, Gives, as_field, octet_at, octets_at, number_at, signed, boolean_at, counted_at, name_at, named_kind, all_kinds, kind_at, fields_at, pairs_at, fixed_at, inside_at, content_at, value_at, table_at}
 use Rattle.field_tables.proofs.Octets.{IsBytes, bind_ok, never_ok, ok_is, Takes, Takes-then, Reads, octets_read, octet_reads, wide16, wide32, wide64, number_reads, signed_reads, boolean_reads, counted_reads, counted_text, name_reads}
 
 -- ---- numbers
@@ -392,3 +394,12 @@ pair_after d bytes name behind v after are named e =
     let s = name_reads.takes bytes (name, behind) are named in
     let t = value_after d behind v after s.0.rest_fits e in
     (omega (arith, t.0, ap length s.0.parts, length-append (name_spelling name) behind), t.1)
+
+-- what reading found, as the clause says it
+pub is_found : (bytes : List ℕ) (r : Result (Table × ℕ) TableFault) → IsBytes bytes → Gives (λ x. (table_view x.0, x.1)) r (table_at bytes)
+    → IfOk r (λ x. IsTable (table_view x.0) × (x.1 ≤ length bytes) × (take x.1 bytes ≡ table_spelling (table_view x.0)))
+is_found bytes (Ok x) are given =
+    let t = table_takes bytes (table_view x.0, x.1) are given in
+    let len : length (table_spelling (table_view x.0)) ≡ x.1 = sym t.len in
+    (t.table, omega (arith, t.len, ap length t.parts.1, length-append (table_spelling (table_view x.0)) t.parts.0), ap (take x.1) t.parts.1 ∙ take_at (table_spelling (table_view x.0)) t.parts.0 x.1 len)
+is_found bytes (Err e) are given = tt

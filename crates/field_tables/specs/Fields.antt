@@ -1,5 +1,6 @@
 -- A field table as AMQP speaks of it, without where it lies in memory.
-use Rattle.std.specs.Prelude.{ℕ, ℤ, Bool, List}
+use Rattle.std.specs.Prelude.{ℕ, ℤ, Bool, List, Option, Some, None, if◌then◌else◌}
+use Rattle.std.specs.Str.{bytes_eq}
 
 mutual
   -- A field value: RabbitMQ's table of field types, in its order (AMQP 0-9-1 Errata, "Field types").
@@ -31,3 +32,8 @@ mutual
   pub data Pairs : Type 0 where
     no_pairs : Pairs
     pair : List ℕ → Field → Pairs → Pairs
+
+-- the value of the first pair of a name
+abbrev pub first_of : List ℕ → Pairs → Option Field
+first_of name no_pairs = None
+first_of name (pair key v ps) = if bytes_eq key name then Some v else first_of name ps

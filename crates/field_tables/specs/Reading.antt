@@ -4,7 +4,8 @@ use Rattle.std.specs.Int.{Width, w8, w16, w32, w64, byte_len, from_be_bytes, cas
 use Rattle.std.specs.Str.{is_utf8}
 use Rattle.field_tables.specs.Fields.{Field, boolean, signed_octet, octet, signed_short, short, signed_long, long, signed_longlong, float, double, decimal, long_string, array, timestamp, table, void, byte_array, Fields, no_fields, field, Pairs, no_pairs, pair}
 use Rattle.field_tables.specs.Tables.{kind_octet, max_depth}
-use Rattle.field_tables.specs.View.{fields_of, pairs_of}
+use Rattle.field_tables.specs.View.{fields_of, pairs_of, table_view}
+use Rattle.field_tables.specs.declared.value.Table.{Table}
 use Rattle.field_tables.specs.declared.kind.Kind.{Kind}
 use Rattle.field_tables.specs.declared.kind.Kind.TheVariants as kinds
 use Rattle.field_tables.specs.declared.kind.Counted.{Counted}
@@ -160,3 +161,7 @@ table_at bytes = do
   x ← counted_at bytes
   ps ← pairs_at (value_at max_depth) (length x.0) x.0
   Ok (pairs_of ps, 4 + length x.0)
+
+-- What was returned is the table, which takes so many octets, unless memory ran out.
+abbrev pub GivesTable : Result (Table × ℕ) TableFault → Pairs → ℕ → Type 0
+GivesTable result ps len = Gives {Y = Pairs × ℕ} (λ x. (table_view x.0, x.1)) result (Ok (ps, len))

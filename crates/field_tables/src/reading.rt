@@ -5,7 +5,7 @@ ghost use Rattle.std.specs.Int.{w8, w16, w32, w64};
 ghost use Rattle.field_tables.specs.Fields.{Pairs};
 ghost use Rattle.field_tables.specs.Tables.{IsTable, table_spelling};
 ghost use Rattle.field_tables.specs.View.{field_view, fields_view, pairs_view, table_view};
-ghost use Rattle.field_tables.specs.Reading.{Gives, octets_at, octet_at, number_at, boolean_at, signed, counted_at, text_at, name_at, fields_at, pairs_at, fixed_at, inside_at, value_at, table_at};
+ghost use Rattle.field_tables.specs.Reading.{Gives, GivesTable, octets_at, octet_at, number_at, boolean_at, signed, counted_at, text_at, name_at, fields_at, pairs_at, fixed_at, inside_at, value_at, table_at};
 
 use crate::fault::TableFault;
 use crate::kind::{Counted, Fixed, Kind};
@@ -246,4 +246,24 @@ fn table_of(alloc: Global, bytes: &[u8]) -> Result<(Table, usize), TableFault>
     let (content, rest) = counted_of(bytes)?;
     let pairs = pairs_of(alloc, MAX_DEPTH, content)?;
     Ok((Table { pairs }, 4 + content.len()))
+}
+
+/// The table that the octets begin with, and how many octets it takes; others may follow it.
+///
+/// One pass over the octets; names, texts and byte arrays are copied. AMQP 0-9-1, 4.2.5.5 "Field
+/// Tables", with the field types of RabbitMQ's errata.
+pub fn read_table(alloc: Global, bytes: &[u8]) -> Result<(Table, usize), TableFault>
+    // What is read is spelled so.
+    ensures found { IfOk result (λ x. IsTable (table_view x.0) × (x.1 ≤ length bytes.now)
+        × (take x.1 bytes.now ≡ table_spelling (table_view x.0))) }
+
+    // What is spelled so is read, whatever follows it, unless memory runs out.
+    ensures only { (ps : Pairs) (rest : List ℕ) → IsTable ps
+        → bytes.now ≡ table_spelling ps ++ rest
+        → GivesTable result ps (length (table_spelling ps)) }
+
+    // Which fault it is: the first from left to right.
+    ensures exact { Gives (λ x. (table_view x.0, x.1)) result (table_at bytes.now) }
+{
+    table_of(alloc, bytes)
 }

@@ -48,3 +48,22 @@ pub struct Table {
     pub pairs: Vec<(String, FieldValue)>,
 }
 
+
+impl Table {
+    ghost use Rattle.std.specs.Prelude.{◌≡◌, option_map};
+    ghost use Rattle.field_tables.specs.Fields.{first_of};
+    ghost use Rattle.field_tables.specs.View.{field_view, table_view};
+
+    /// The value of the first pair of that name; `None` exactly where there is no such pair.
+    pub fn get(&self, name: &str) -> Option<&FieldValue>
+        ensures { option_map (λ v. field_view v.now) result
+            ≡ first_of name.now (table_view self.now) }
+    {
+        for (key, value) in &self.pairs {
+            if key.as_str() == name {
+                return Some(value);
+            }
+        }
+        None
+    }
+}
