@@ -1,3 +1,4 @@
+pub mod Apart
 pub mod Loops
 pub mod Octets
 pub mod Patches

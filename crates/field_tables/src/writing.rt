@@ -146,3 +146,17 @@ fn put_pairs(pairs: &Vec<(String, FieldValue)>, out: &mut Vec<u8>) -> Result<(),
     set_count(start, out);
     Ok(())
 }
+
+/// Appends the one spelling of a table that has one; after an error `out` is as it was.
+///
+/// The octets are made apart, in one pass, and then appended. AMQP 0-9-1, 4.2.5.5 "Field Tables".
+pub fn write_table(table: &Table, out: &mut Vec<u8>) -> Result<(), AllocError>
+    requires { IsTable (table_view table.now) }
+    ensures ok { OnOk result
+        (out.new.items ≡ out.old.items ++ table_spelling (table_view table.now)) }
+    ensures err { OnErr result (out.new.items ≡ out.old.items) }
+{
+    let mut octets = Vec::new(*out.allocator());
+    put_pairs(&table.pairs, &mut octets)?;
+    out.extend_from_slice(&octets)
+}
