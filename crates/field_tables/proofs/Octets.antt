@@ -89,7 +89,7 @@ octets_read n = record {
       let g = guard_ok (ltb (length bytes) n) Short (take n bytes, drop n bytes) x e in
       let long : n ≤ length bytes = ltb-false _ _ g.0 in
       subst (λ (p : List ℕ × List ℕ). Takes bytes p.0 p.1 × (length p.0 ≡ n)) g.1
-          (record { parts = sym (take-append-drop n bytes); text_fits = IsBytes-take n bytes fits; rest_fits = IsBytes-drop n bytes fits }, omega (arith, length-take n bytes));
+      (record { parts = sym (take-append-drop n bytes); text_fits = IsBytes-take n bytes fits; rest_fits = IsBytes-drop n bytes fits }, omega (arith, length-take n bytes));
   again = λ text rest len.
       let long : ltb (length (text ++ rest)) n ≡ false = le-ltb _ _ (omega (arith, length-append text rest, len)) in
       rw (long, take_at text rest n len, drop_at text rest n len) refl;

@@ -62,8 +62,8 @@ pub one_pair : (out named next total : List ℕ) (ps qs : List (String Global ×
     → out ++ pairs_spelling (pairs_of (pairs_view ps)) ≡ total → next ++ pairs_spelling (pairs_of (pairs_view qs)) ≡ total
 one_pair out named next total ps qs name v is first made so_far =
     rw (made, first) (append_assoc (out ++ name_spelling (string_bytes name)) (value_spelling (field_view v)) (pairs_spelling (pairs_of (pairs_view qs)))
-        ∙ append_assoc out (name_spelling (string_bytes name)) (value_spelling (field_view v) ++ pairs_spelling (pairs_of (pairs_view qs)))
-        ∙ ap (λ (ys : List (String Global × FieldValue)). out ++ pairs_spelling (pairs_of (pairs_view ys))) (sym is) ∙ so_far)
+    ∙ append_assoc out (name_spelling (string_bytes name)) (value_spelling (field_view v) ++ pairs_spelling (pairs_of (pairs_view qs)))
+    ∙ ap (λ (ys : List (String Global × FieldValue)). out ++ pairs_spelling (pairs_of (pairs_view ys))) (sym is) ∙ so_far)
 
 pub first_pair : (ps qs : List (String Global × FieldValue)) (name : String Global) (v : FieldValue) → ps ≡ (name, v) ∷ qs → ArePairs (pairs_of (pairs_view ps)) → IsName (string_bytes name) × HasSpelling (field_view v) × ArePairs (pairs_of (pairs_view qs))
 first_pair ps qs name v is h = subst (λ (ys : List (String Global × FieldValue)). ArePairs (pairs_of (pairs_view ys))) is h

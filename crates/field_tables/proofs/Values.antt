@@ -52,9 +52,9 @@ chosen false first k other e = inr e
 named_takes : (ks : List Kind) (b : ℕ) (k : Kind) → named_kind ks b ≡ Ok k → b ≡ kind_octet k
 named_takes [] b k e = absurd cc
 named_takes (first ∷ ks) b k e = elim (chosen (eqb b (kind_octet first)) first k (named_kind ks b) e) [
-    | inl h ↦ eqb-true _ _ h.0 ∙ ap kind_octet h.1
-    | inr h ↦ named_takes ks b k h
-    ]
+  | inl h ↦ eqb-true _ _ h.0 ∙ ap kind_octet h.1
+  | inr h ↦ named_takes ks b k h
+]
 
 kind_takes : (b : ℕ) (k : Kind) → kind_at b ≡ Ok k → b ≡ kind_octet k
 unfolding kind_at

@@ -8,8 +8,7 @@ ghost use Rattle.field_tables.specs.Tables.{IsTable, HasSpelling, value_spelling
 pub fn values_are_apart()
     ensures { (v w : Field) (x y : List ℕ) → HasSpelling v → HasSpelling w
         → value_spelling v ++ x ≡ value_spelling w ++ y → (v ≡ w) × (x ≡ y) }
-{
-}
+{}
 
 /// No table's spelling begins another's.
 pub fn tables_are_apart()
@@ -17,5 +16,4 @@ pub fn tables_are_apart()
         → table_spelling ps ++ x ≡ table_spelling qs ++ y → (ps ≡ qs) × (x ≡ y) }
     ensures prefix { (ps qs : Pairs) (rest : List ℕ) → IsTable ps → IsTable qs
         → table_spelling qs ≡ table_spelling ps ++ rest → (ps ≡ qs) × (rest ≡ []) }
-{
-}
+{}

@@ -48,7 +48,6 @@ pub struct Table {
     pub pairs: Vec<(String, FieldValue)>,
 }
 
-
 impl Table {
     ghost use Rattle.std.specs.Prelude.{◌≡◌, option_map};
     ghost use Rattle.field_tables.specs.Fields.{first_of};

@@ -22,8 +22,8 @@ put_fields-returns t c =
     let none : drop c.loop-value.value-index xs ≡ [] = drop_all c.loop-value.value-index xs (omega arith) in
     let at : c.len-start.result ≡ length c.args.out.now.items = search rules in
     let made : c.set_count.new.out.items ≡ c.args.out.now.items ++ counted_spelling (fields_spelling (fields_of (fields_view xs))) =
-        filled c.args.out.now.items (fields_spelling (fields_of (fields_view xs))) c.loop-value.out.items c.set_count.new.out.items c.len-start.result at
-        (no_value c.loop-value.out.items _ (drop c.loop-value.value-index xs) none c.loop-value.invariant.0) c.set_count.ensures in
+    filled c.args.out.now.items (fields_spelling (fields_of (fields_view xs))) c.loop-value.out.items c.set_count.new.out.items c.len-start.result at
+    (no_value c.loop-value.out.items _ (drop c.loop-value.value-index xs) none c.loop-value.invariant.0) c.set_count.ensures in
     made ∙ ap (λ ys. c.args.out.now.items ++ counted_spelling (fields_spelling (fields_of (fields_view ys)))) c.deref-value-items.ensures.value
 
 pub put_pairs-put_value-requires : goal.put_pairs-put_value-requires
@@ -41,6 +41,6 @@ put_pairs-returns t c =
     let none : drop c.loop-name.name-index xs ≡ [] = drop_all c.loop-name.name-index xs (omega arith) in
     let at : c.len-start.result ≡ length c.args.out.now.items = search rules in
     let made : c.set_count.new.out.items ≡ c.args.out.now.items ++ counted_spelling (pairs_spelling (pairs_of (pairs_view xs))) =
-        filled c.args.out.now.items (pairs_spelling (pairs_of (pairs_view xs))) c.loop-name.out.items c.set_count.new.out.items c.len-start.result at
-        (no_pair c.loop-name.out.items _ (drop c.loop-name.name-index xs) none c.loop-name.invariant.0) c.set_count.ensures in
+    filled c.args.out.now.items (pairs_spelling (pairs_of (pairs_view xs))) c.loop-name.out.items c.set_count.new.out.items c.len-start.result at
+    (no_pair c.loop-name.out.items _ (drop c.loop-name.name-index xs) none c.loop-name.invariant.0) c.set_count.ensures in
     made ∙ ap (λ ys. c.args.out.now.items ++ counted_spelling (pairs_spelling (pairs_of (pairs_view ys)))) c.deref-name-items.ensures.value
