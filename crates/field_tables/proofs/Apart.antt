@@ -1,7 +1,6 @@
 -- No spelling begins another: both are read from the same octets.
-use Rattle.std.proofs.Common.{◌≡◌, ℕ, ◌≤◌, max, List, [], ◌++◌, length, Result, Ok, Err, refl, sym, ap, ◌∙◌, arith}
+use Rattle.std.proofs.Common.{◌≡◌, ℕ, max, List, [], ◌++◌, length, Ok, sym, ap, ◌∙◌, arith}
 use Rattle.std.proofs.lemmas.List.{append-nil}
-use Rattle.field_tables.specs.declared.fault.TableFault.{TableFault}
 use Rattle.field_tables.specs.Fields.{Field, Pairs}
 use Rattle.field_tables.specs.Tables.{depth, IsTable, HasSpelling, value_spelling, pairs_spelling, table_spelling, max_depth}
 use Rattle.field_tables.specs.Reading.{counted_at, pairs_at, value_at}

@@ -1,9 +1,8 @@
 -- Four octets written over those at a place.
-use Rattle.std.proofs.Common.{get_or, append_assoc, ◌<◌, ◌^◌, ◌≡◌, ℕ, zero, suc, ◌+◌, ◌-◌, ◌≤◌, List, [], ◌∷◌, ◌++◌, length, take, drop, refl, sym, ap, ◌∙◌, arith}
+use Rattle.std.proofs.Common.{get_or, append_assoc, ◌<◌, ◌^◌, ◌≡◌, ℕ, zero, suc, ◌+◌, ◌≤◌, List, [], ◌∷◌, ◌++◌, length, take, drop, refl, sym, ap, ◌∙◌, arith}
 use Rattle.std.specs.Int.{w32, to_be_bytes}
 use Rattle.std.proofs.Math.ListN.{set}
 use Rattle.std.proofs.lemmas.List.{take_at, drop_at, length-append, append-nil}
-use Rattle.field_tables.specs.Fields.{Fields, Pairs}
 use Rattle.field_tables.specs.Tables.{counted_spelling, IsCounted, IsName, name_spelling, value_spelling, fields_spelling, pairs_spelling, HasSpelling, HaveSpelling, ArePairs}
 use Rattle.field_tables.specs.View.{fields_of, pairs_of, field_view, fields_view, pairs_view}
 use Rattle.field_tables.specs.declared.value.FieldValue.{FieldValue}

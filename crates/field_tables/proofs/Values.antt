@@ -1,5 +1,5 @@
 -- A value that is read is the value that was written, and what was written is read again.
-use Rattle.std.proofs.Common.{◌≡◌, ℕ, ℤ, zero, suc, ◌+◌, ◌-◌, ◌^◌, ◌<◌, ◌≤◌, Bool, true, false, cond, eqb, List, [], ◌∷◌, ◌++◌, length, take, Result, Ok, Err, refl, sym, ap, ap₂, subst, ◌∙◌, ◌⊎◌, inl, inr, append_assoc, arith}
+use Rattle.std.proofs.Common.{◌≡◌, ℕ, zero, suc, ◌+◌, ◌^◌, ◌<◌, ◌≤◌, Bool, true, false, cond, eqb, List, [], ◌∷◌, ◌++◌, length, take, Result, Ok, Err, refl, sym, ap, subst, ◌∙◌, ◌⊎◌, inl, inr, arith}
 use Rattle.std.specs.Prelude.{IfOk}
 use Rattle.std.specs.Int.{w8, w16, w32, w64, to_be_bytes, cast_unsigned}
 use Rattle.std.specs.Int.RustNames.{FitsSigned}
@@ -16,8 +16,8 @@ use Rattle.field_tables.specs.declared.kind.Fixed.TheVariants as fixed
 use Rattle.field_tables.specs.Fields.{Field, boolean, signed_octet, octet, signed_short, short, signed_long, long, signed_longlong, float, double, decimal, long_string, array, timestamp, table, void, byte_array, Fields, no_fields, field, Pairs, no_pairs, pair}
 use Rattle.field_tables.specs.View.{fields_of, pairs_of, table_view}
 use Rattle.field_tables.specs.declared.value.Table.{Table}
-use Rattle.field_tables.specs.Tables.{max_depth, kind_octet, kind_of, typed, content_spelling, value_spelling, fields_spelling, pairs_spelling, table_spelling, name_spelling, counted_spelling, depth, fields_depth, pairs_depth, IsCounted, IsName, HasSpelling, HaveSpelling, ArePairs, IsTable}
-use Rattle.field_tables.specs.Reading.{◌>>=◌, Gives, as_field, octet_at, octets_at, number_at, signed, boolean_at, counted_at, name_at, named_kind, all_kinds, kind_at, fields_at, pairs_at, fixed_at, inside_at, content_at, value_at, table_at}
+use Rattle.field_tables.specs.Tables.{max_depth, kind_octet, kind_of, content_spelling, value_spelling, fields_spelling, pairs_spelling, table_spelling, name_spelling, counted_spelling, depth, fields_depth, pairs_depth, IsCounted, HasSpelling, HaveSpelling, ArePairs, IsTable}
+use Rattle.field_tables.specs.Reading.{◌>>=◌, Gives, as_field, octet_at, number_at, signed, counted_at, name_at, named_kind, all_kinds, kind_at, fields_at, pairs_at, fixed_at, inside_at, content_at, value_at, table_at}
 use Rattle.field_tables.proofs.Octets.{IsBytes, bind_ok, never_ok, ok_is, Takes, Takes-then, Reads, octets_read, octet_reads, wide16, wide32, wide64, number_reads, signed_reads, boolean_reads, counted_reads, counted_text, name_reads}
 
 -- ---- numbers

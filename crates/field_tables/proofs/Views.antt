@@ -1,10 +1,9 @@
 -- A value, level by level.
-use Rattle.std.proofs.Common.{◌≡◌, ℕ, List, [], ◌∷◌, map, String, Global, Vec, refl, sym, ap, ap₂, ◌∙◌, rules, arith}
-use Rattle.field_tables.specs.Fields.{Field, array, table, Fields, field}
-use Rattle.field_tables.specs.View.{fields_of, pairs_of, named, field_view, fields_view, pair_view, pairs_view, table_view}
+use Rattle.std.proofs.Common.{◌≡◌, ℕ, List, [], ◌∷◌, map, String, Global, Vec, refl, ap, rules}
+use Rattle.field_tables.specs.Fields.{Field, array, table}
+use Rattle.field_tables.specs.View.{fields_of, pairs_of, named, field_view, fields_view, pair_view, pairs_view}
 use Rattle.field_tables.specs.declared.value.FieldValue.{FieldValue, the_lemmas}
 use Rattle.field_tables.specs.declared.value.FieldValue.TheViews.{Array, Table, roll-Table}
-use Rattle.field_tables.specs.declared.value.Table as declared
 
 pub named_pairs : (ps : List (String Global × FieldValue)) → map named (map (λ p. (p.0, field_view p.1)) ps) ≡ pairs_view ps
 named_pairs [] = refl

@@ -1,4 +1,4 @@
-use Rattle.std.proofs.Common.{◌≡◌, sym, ap, ◌∙◌}
+use Rattle.std.proofs.Common.{sym, ap, ◌∙◌}
 use Rattle.field_tables.specs.Fields.{table}
 use Rattle.field_tables.specs.View.{pairs_of, field_view}
 use Rattle.field_tables.proofs.Views.{view-Table}

@@ -1,10 +1,9 @@
-use Rattle.std.proofs.Common.{◌≡◌, ℕ, ◌-◌, ◌≤◌, ◌<◌, length, Ok, Err, refl, sym, ap, ◌∙◌, ◌++◌, ◌∷◌, [], arith}
+use Rattle.std.proofs.Common.{◌≡◌, ◌-◌, ◌<◌, length, refl, sym, ◌++◌, ◌∷◌, [], arith}
 use Rattle.std.specs.Prelude.{string_bytes}
-use Rattle.std.proofs.lemmas.List.{map_push, length-append}
+use Rattle.std.proofs.lemmas.List.{map_push}
 use Rattle.std.proofs.lemmas.Result.{err_from_is_err_and}
-use Rattle.field_tables.specs.Tables.{value_spelling, name_spelling}
 use Rattle.field_tables.specs.View.{field_view, pair_view, fields_view, pairs_view}
-use Rattle.field_tables.specs.Reading.{◌>>=◌, octet_at, counted_at, kind_at, inside_at, content_at, fields_at, pairs_at, value_at}
+use Rattle.field_tables.specs.Reading.{counted_at, kind_at, inside_at, value_at}
 use Rattle.field_tables.proofs.Loops.{fields_go, fields_fail, fields_end, pairs_go, pairs_fail_name, pairs_fail_value, pairs_end, fails_on, fails_self, value_below, value_short, value_deep, content_fixed, content_counted, with_front-nil, some_left, none_left}
 use Rattle.field_tables.proofs.Octets.{IsBytes}
 use Rattle.field_tables.proofs.Values.{value_after, pair_after}

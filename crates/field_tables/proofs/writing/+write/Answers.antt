@@ -1,10 +1,10 @@
-use Rattle.std.proofs.Common.{◌≡◌, ℕ, ◌+◌, ◌<◌, List, [], ◌∷◌, ◌++◌, length, drop, string_bytes, sym, ap, subst, ◌∙◌, arith, rules}
+use Rattle.std.proofs.Common.{◌≡◌, ◌+◌, [], ◌∷◌, ◌++◌, length, drop, sym, ap, subst, ◌∙◌, arith, rules}
 use Rattle.std.proofs.lemmas.List.{drop_more, drop_all}
 use Rattle.field_tables.specs.declared.value.FieldValue.{the_lemmas}
 use Rattle.field_tables.specs.Fields.{table}
-use Rattle.field_tables.specs.Tables.{counted_spelling, HasSpelling, HaveSpelling, ArePairs, IsName, fields_spelling, pairs_spelling, content_spelling}
+use Rattle.field_tables.specs.Tables.{counted_spelling, HasSpelling, fields_spelling, pairs_spelling}
 use Rattle.field_tables.specs.View.{fields_of, pairs_of, field_view, fields_view, pairs_view}
-use Rattle.field_tables.proofs.Patches.{free, filled, no_value, no_pair, first_pair}
+use Rattle.field_tables.proofs.Patches.{filled, no_value, no_pair, first_pair}
 use Rattle.field_tables.proofs.Views.{view-Table}
 use Rattle.field_tables.proofs.writing.+write.Goals as goal
 

@@ -1,4 +1,4 @@
-use Rattle.std.proofs.Common.{◌≡◌, ◌+◌, length, drop, arith}
+use Rattle.std.proofs.Common.{◌+◌, arith}
 use Rattle.std.proofs.lemmas.List.{length-drop}
 use Rattle.field_tables.proofs.Patches.{set_counted}
 use Rattle.field_tables.proofs.writing.set_count.Goals as goal
