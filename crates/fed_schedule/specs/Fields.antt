@@ -1,6 +1,6 @@
 -- Run names, names and places.
-use Rattle.std.specs.Prelude.{ℕ, List, Bool, ◌&&◌, ◌||◌, not, if◌then◌else◌, ◌==◌, nat_le, nat_lt, length, slice_index, codes}
-use Rattle.std.specs.List.{list_all, list_any, before_first, after_first}
+use Rattle.std.specs.Prelude.{ℕ, ◌+◌, List, Bool, ◌&&◌, ◌||◌, not, ◌==◌, nat_le, nat_lt, length, take, drop, slice_index, Option, Some, None, codes}
+use Rattle.std.specs.List.{list_all, position}
 use Rattle.fed_journal.specs.declared.place.Place.{Place}
 use Rattle.fed_schedule.specs.Words.{text_of}
 
@@ -24,12 +24,13 @@ abbrev pub is_colon : ℕ → Bool
 is_colon b = b == 58
 
 -- the virtual host is `/` where none is named (RabbitMQ, Virtual Hosts: the default virtual host)
-unfoldable pub vhost_of : List ℕ → List ℕ
-vhost_of w = if list_any is_colon w then text_of (after_first is_colon w) else codes "/"
+abbrev pub place_cut_at : List ℕ → Option ℕ → Place
+place_cut_at w None = record { broker = text_of w; vhost = codes "/" }
+place_cut_at w (Some at) = record { broker = text_of (take at w); vhost = text_of (drop (at + 1) w) }
 
 -- a place is a broker, or a broker and a virtual host with the first `:` between
 unfoldable pub place_of : List ℕ → Place
-place_of w = record { broker = text_of (before_first is_colon w); vhost = vhost_of w }
+place_of w = place_cut_at w (position is_colon w)
 
 abbrev pub is_bad_place : Place → Bool
 is_bad_place p = not (is_run_name p.broker) || is_long p.vhost

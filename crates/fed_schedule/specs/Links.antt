@@ -1,13 +1,13 @@
 -- Names of links (RabbitMQ, Shovel and Federation: each link has one name).
 use Rattle.std.specs.Prelude.{ℕ, List, [], ◌∷◌, ◌++◌, Bool, false, ◌||◌, if◌then◌else◌, ◌==◌, length, flat_map, codes}
-use Rattle.std.specs.List.{list_any, slice_split}
+use Rattle.std.specs.List.{list_any}
 use Rattle.fed_journal.specs.Words.{word, place_word}
-use Rattle.fed_schedule.specs.Words.{text_of}
+use Rattle.fed_schedule.specs.Words.{text_of, pieces_of}
 use Rattle.fed_schedule.specs.Fields.{place_of, is_long}
 
 -- the parts of a link's name stand between slashes
 unfoldable pub parts_of : List ℕ → List (List ℕ)
-parts_of w = slice_split (λ b. b == 47) w
+parts_of w = pieces_of 47 w
 
 -- a part as a run writes it; an empty one stays empty
 unfoldable pub part_word : List ℕ → List ℕ

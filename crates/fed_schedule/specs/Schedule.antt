@@ -1,6 +1,6 @@
 -- A schedule: the lines of a file, each read after those before it.
 use Rattle.std.specs.Prelude.{ℕ, ◌+◌, ◌-◌, List, [], ◌∷◌, ◌++◌, Bool, true, false, not, ◌&&◌, ◌||◌, if◌then◌else◌, ◌==◌, nat_lt, length, take, slice_index, Option, Some, None, Result, Ok, Err}
-use Rattle.std.specs.List.{list_all, slice_split}
+use Rattle.std.specs.List.{list_all}
 use Rattle.fed_journal.specs.declared.event.Event.{Event}
 use Rattle.fed_schedule.specs.declared.keyword.Keyword.{Keyword}
 use Rattle.fed_schedule.specs.declared.script.Script.{Script}
@@ -10,7 +10,7 @@ use Rattle.fed_schedule.specs.declared.script.ScheduleFault.{ScheduleFault}
 use Rattle.fed_schedule.specs.declared.script.ScheduleFault.TheVariants.{Line}
 use Rattle.fed_schedule.specs.declared.statement.Statement.{Statement}
 use Rattle.fed_schedule.specs.declared.statement.Statement.TheVariants as states
-use Rattle.fed_schedule.specs.Words.{words_of, word_at, is_well_escaped}
+use Rattle.fed_schedule.specs.Words.{pieces_of, words_of, word_at, is_well_escaped}
 use Rattle.fed_schedule.specs.Forms.{keyword_of, are_texts, is_unbuilt, is_miscounted}
 use Rattle.fed_schedule.specs.Reasons.{is_late, has_bad_number, has_bad_names, is_twice, has_bad_option, has_bad_value}
 use Rattle.fed_schedule.specs.Statements.{statement_of}
@@ -26,7 +26,7 @@ reading_of s = record { brokers = s.brokers.items; events = s.events.items }
 
 -- the lines end with line feeds, which the last may lack
 unfoldable pub lines_of : List ℕ → List (List ℕ)
-lines_of bytes = slice_split (λ b. b == 10) bytes
+lines_of bytes = pieces_of 10 bytes
 
 -- one carriage return before the end of a line is dropped
 unfoldable pub without_return : List ℕ → List ℕ
@@ -79,6 +79,10 @@ with_lines n (Err fault) ls = Err fault
 with_lines n (Ok r) [] = Ok r
 with_lines n (Ok r) (l ∷ ls) = with_lines (n + 1) (with_line n r l) ls
 
+-- the script that the lines spell, or the first of them that is refused
+unfoldable pub script_of : List (List ℕ) → Result Reading ScheduleFault
+script_of ls = with_lines 1 (Ok (record { brokers = []; events = [] })) ls
+
 -- the script that a file's octets spell, or where and why they spell none
 unfoldable pub reading : List ℕ → Result Reading ScheduleFault
-reading bytes = with_lines 1 (Ok (record { brokers = []; events = [] })) (lines_of bytes)
+reading bytes = script_of (lines_of bytes)

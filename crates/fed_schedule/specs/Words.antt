@@ -6,9 +6,13 @@ use Rattle.std.specs.Str.Lossy.{utf8_lossy}
 use Rattle.percent_encoding.specs.Percent.{percent_decode}
 use Rattle.fed_journal.specs.Names.{same_text}
 
+-- what stands between the separators
+unfoldable pub pieces_of : ℕ → List ℕ → List (List ℕ)
+pieces_of separator octets = slice_split (λ b. b == separator) octets
+
 -- the words of a line stand between single spaces
 unfoldable pub words_of : List ℕ → List (List ℕ)
-words_of line = slice_split (λ b. b == 32) line
+words_of line = pieces_of 32 line
 
 -- the word at a place, counted from 0; no octets where the line has fewer words
 abbrev pub word_at : List (List ℕ) → ℕ → List ℕ

@@ -1,7 +1,7 @@
 //! Run names, names and places.
-ghost use Rattle.std.specs.Prelude.{◌≡◌, IfOk};
-ghost use Rattle.std.specs.List.{list_all, list_any, before_first, after_first, position};
-ghost use Rattle.fed_schedule.specs.Fields.{begins_run_name, is_in_run_name, is_run_name, is_long, is_colon, vhost_of, place_of, is_bad_place};
+ghost use Rattle.std.specs.Prelude.{◌≡◌, ◌<◌, IfOk, IfSome, length};
+ghost use Rattle.std.specs.List.{list_all, position};
+ghost use Rattle.fed_schedule.specs.Fields.{begins_run_name, is_in_run_name, is_run_name, is_long, is_colon, place_of, is_bad_place};
 
 use crate::words::text_of;
 use fed_journal::place::Place;
@@ -46,13 +46,14 @@ pub(crate) fn is_long(text: &Text) -> bool
 
 /// Where the first `:` stands.
 fn colon_of(word: &[u8]) -> Option<usize>
-    ensures { result ≡ position is_colon word.now }
+    ensures place { result ≡ position is_colon word.now }
+    ensures within { IfSome result (λ at. at < length word.now) }
 {
     word.iter().position(|octet| *octet == b':')
 }
 
 /// The place that a word names.
-#[tactic(auto, unfolding(crate::specs::Fields::place_of, crate::specs::Fields::vhost_of))]
+#[tactic(auto, unfolding(crate::specs::Fields::place_of))]
 pub(crate) fn place_of(alloc: Global, word: &[u8]) -> Result<Place, AllocError>
     ensures { IfOk result (λ place. place ≡ place_of word.now) }
 {

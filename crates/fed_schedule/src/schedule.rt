@@ -2,7 +2,7 @@
 ghost use Rattle.std.specs.Prelude.{◌≡◌, ◌≢◌, ◌+◌, ◌≤◌, ◌<◌, ◌^◌, Ok, Err, Some, None, IfOk, IfErr, OnOk, OnErr, length, not};
 ghost use Rattle.std.specs.List.{list_all};
 ghost use Rattle.fed_schedule.specs.Words.{is_well_escaped, words_of};
-ghost use Rattle.fed_schedule.specs.Schedule.{reading_of, lines_of, without_return, is_passed_over, reason_of, judge, with_line, with_lines, reading};
+ghost use Rattle.fed_schedule.specs.Schedule.{reading_of, lines_of, without_return, is_passed_over, reason_of, judge, with_line, script_of, reading};
 
 use crate::forms::{are_texts, is_miscounted, is_unbuilt, keyword_of};
 use crate::keyword::Keyword;
@@ -117,24 +117,34 @@ fn read_line(alloc: Global, script: &mut Script, number: u32, line: &[u8]) -> Re
     }
 }
 
+/// Reads the lines of a schedule.
+#[tactic(auto, unfolding(crate::specs::Schedule::script_of, crate::specs::Schedule::with_lines))]
+fn read_lines(alloc: Global, lines: &[Octets]) -> Result<Script, ScheduleFault>
+    requires { length lines.now ≤ MAX_SCHEDULE + 1 }
+    ensures ok { IfOk result (λ script. script_of lines.now ≡ Ok (reading_of script)) }
+    ensures err { IfErr result (λ fault. fault ≢ ScheduleFault.Memory → script_of lines.now ≡ Err fault) }
+{
+    let mut script = Script {
+        brokers: Vec::new(alloc),
+        events: Vec::new(alloc),
+    };
+    for (index, line) in lines.iter().enumerate() {
+        read_line(alloc, &mut script, index as u32 + 1, line.as_slice())?;
+    }
+    Ok(script)
+}
+
 /// Reads a schedule.
 ///
 /// The script is the one that the octets spell by the definition `reading`. `Line` comes exactly where
 /// they spell none, with the first line that is refused and the first reason that applies to it.
 /// `Memory` comes only where memory runs out.
-#[tactic(auto, unfolding(crate::specs::Schedule::reading, crate::specs::Schedule::with_lines))]
+#[tactic(auto, unfolding(crate::specs::Schedule::reading))]
 pub fn read(alloc: Global, bytes: &[u8]) -> Result<Script, ScheduleFault>
     requires { length bytes.now ≤ MAX_SCHEDULE }
     ensures ok { IfOk result (λ script. reading bytes.now ≡ Ok (reading_of script)) }
     ensures err { IfErr result (λ fault. fault ≢ ScheduleFault.Memory → reading bytes.now ≡ Err fault) }
 {
     let lines = lines_of(alloc, bytes).map_err(|_| ScheduleFault::Memory)?;
-    let mut script = Script {
-        brokers: Vec::new(alloc),
-        events: Vec::new(alloc),
-    };
-    for (index, line) in lines.as_slice().iter().enumerate() {
-        read_line(alloc, &mut script, index as u32 + 1, line.as_slice())?;
-    }
-    Ok(script)
+    read_lines(alloc, lines.as_slice())
 }

@@ -1,23 +1,31 @@
 //! The words of a line, and what they stand for.
-ghost use Rattle.std.specs.Prelude.{◌≡◌, ◌+◌, ◌≤◌, ◌==◌, IfOk, take, drop, length, codes};
-ghost use Rattle.std.specs.List.{slice_split};
+ghost use Rattle.std.specs.Prelude.{◌≡◌, ◌+◌, ◌≤◌, IfOk, take, drop, length, codes};
+ghost use Rattle.std.specs.Str.{is_utf8};
 ghost use Rattle.fed_journal.specs.Names.{same_text};
-ghost use Rattle.fed_schedule.specs.Words.{words_of, word_at, octets_of, text_of, is_text, is_hex_digit, begins_with_two_digits, is_well_escaped};
+ghost use Rattle.fed_schedule.specs.Words.{pieces_of, words_of, word_at, octets_of, text_of, is_text, is_hex_digit, begins_with_two_digits, is_well_escaped};
 
 use fed_journal::text::{Octets, Text};
 use percent_encoding::percent_decode;
 use std::alloc::{AllocError, Global};
+use std::mem;
 
 /// The pieces between the separators.
+#[tactic(auto, using(crate::proofs::Pieces::pieces_cut, crate::proofs::Pieces::pieces_kept, crate::proofs::Pieces::pieces_begun, crate::proofs::Pieces::pieces_ended))]
 pub(crate) fn split(alloc: Global, octets: &[u8], separator: u8) -> Result<Vec<Octets>, AllocError>
-    ensures pieces { IfOk result (λ pieces. pieces.items ≡ slice_split (λ b. b == separator) octets.now) }
+    ensures pieces { IfOk result (λ pieces. pieces.items ≡ pieces_of separator octets.now) }
     ensures within { IfOk result (λ pieces. length pieces.items ≤ length octets.now + 1) }
 {
     let mut pieces = Vec::new(alloc);
-    for piece in octets.split(|octet| *octet == separator) {
-        let piece = Vec::from_slice(alloc, piece)?;
-        pieces.push(Octets::new(piece))?;
+    let mut piece = Vec::new(alloc);
+    for octet in octets {
+        if *octet == separator {
+            let whole = mem::replace(&mut piece, Vec::new(alloc));
+            pieces.push(Octets::new(whole))?;
+        } else {
+            piece.push(*octet)?;
+        }
     }
+    pieces.push(Octets::new(piece))?;
     Ok(pieces)
 }
 
@@ -88,13 +96,23 @@ pub(crate) fn text_of(alloc: Global, word: &[u8]) -> Result<Text, AllocError>
     Ok(Text::new(String::from_utf8_lossy(alloc, octets.as_slice())?))
 }
 
+#[tactic(auto, using(crate::proofs::Utf8::is_utf8_no, crate::proofs::Utf8::is_utf8_yes))]
+fn is_utf8(octets: &[u8]) -> bool
+    ensures { result ≡ is_utf8 octets.now }
+{
+    match std::str::from_utf8(octets) {
+        Ok(_) => true,
+        Err(_) => false,
+    }
+}
+
 /// Whether the word stands for UTF-8.
 #[tactic(auto, unfolding(crate::specs::Words::is_text))]
 pub(crate) fn is_text(alloc: Global, word: &[u8]) -> Result<bool, AllocError>
     ensures { IfOk result (λ text. text ≡ is_text word.now) }
 {
     let octets = decode(alloc, word)?;
-    Ok(std::str::from_utf8(octets.as_slice()).is_ok())
+    Ok(is_utf8(octets.as_slice()))
 }
 
 fn is_hex_digit(octet: u8) -> bool
