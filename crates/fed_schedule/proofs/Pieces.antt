@@ -1,5 +1,5 @@
 -- How octets are cut into pieces, one after the other.
-use Rattle.std.proofs.Common.{◌≡◌, ◌<◌, ◌≤◌, ◌+◌, ℕ, List, [], ◌∷◌, ◌++◌, Bool, true, false, cond, eqb, refl, sym, ap, ◌∙◌, append_assoc, take, drop, get_or, length, add-one, drop-cons, arith}
+use Rattle.std.proofs.Common.{◌≡◌, ◌<◌, ◌≤◌, ◌+◌, ℕ, List, [], ◌∷◌, ◌++◌, Bool, true, false, cond, eqb, refl, sym, ap, append_assoc, drop, get_or, length, add-one, drop-cons}
 use Rattle.std.specs.List.{slice_split, onto_first}
 use Rattle.std.proofs.lemmas.List.{append-nil, drop_all}
 use Rattle.std.proofs.lemmas.List.Splits.{slice_split-cons_yes, slice_split-cons_no}
@@ -22,7 +22,7 @@ onto-nil : (p : ℕ → Bool) (xs : List ℕ) → onto [] (slice_split p xs) ≡
 onto-nil p [] = refl
 onto-nil p (x ∷ xs) =
     elim (p x) as (λ b. onto [] (cond b ([] ∷ slice_split p xs) (onto_first x (slice_split p xs))) ≡ cond b ([] ∷ slice_split p xs) (onto_first x (slice_split p xs)))
-      [ true ↦ refl | false ↦ onto-nil_first x (slice_split p xs) ]
+    [ true ↦ refl | false ↦ onto-nil_first x (slice_split p xs) ]
 
 -- before the first octet
 pub pieces_begun : (s : ℕ) (xs : List ℕ) → [] ++ onto [] (pieces_of s (drop 0 xs)) ≡ pieces_of s xs

@@ -1,5 +1,5 @@
 -- The forms of lines, by their first word.
-use Rattle.std.specs.Prelude.{ℕ, List, ◌∷◌, [], Bool, true, false, ◌&&◌, ◌||◌, not, if◌then◌else◌, ◌==◌, nat_le, nat_lt, nat_eq, length, take, drop, Option, Some, None, codes}
+use Rattle.std.specs.Prelude.{ℕ, List, Bool, true, false, ◌&&◌, ◌||◌, not, if◌then◌else◌, ◌==◌, nat_le, nat_lt, nat_eq, length, take, drop, Option, Some, None, codes}
 use Rattle.std.specs.List.{list_any, list_all, starts_with}
 use Rattle.fed_journal.specs.declared.event.Event.{Event}
 use Rattle.fed_journal.specs.declared.event.Event.TheVariants.{SetShovel}

@@ -1,5 +1,5 @@
 -- What makes a line's words no values of its form.
-use Rattle.std.specs.Prelude.{ℕ, List, Bool, true, false, ◌&&◌, ◌||◌, not, ◌==◌, nat_lt, length, drop, is_some, codes}
+use Rattle.std.specs.Prelude.{ℕ, List, Bool, false, ◌&&◌, ◌||◌, not, ◌==◌, nat_lt, length, drop, is_some, codes}
 use Rattle.std.specs.List.{list_any}
 use Rattle.fed_journal.specs.Names.{same_text, is_reserved}
 use Rattle.fed_schedule.specs.declared.keyword.Keyword.{Keyword}

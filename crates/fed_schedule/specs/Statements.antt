@@ -1,5 +1,5 @@
 -- What a line states, where its words are values of its form.
-use Rattle.std.specs.Prelude.{ℕ, List, ◌==◌, length, not, Option, Some, None}
+use Rattle.std.specs.Prelude.{ℕ, List, ◌==◌, length, not}
 use Rattle.std.specs.Option.{unwrap_or}
 use Rattle.fed_journal.specs.declared.event.Event.{Event}
 use Rattle.fed_journal.specs.declared.event.Event.TheVariants as event
@@ -33,13 +33,17 @@ declare_event ws = event.DeclareQueue (place_of (word_at ws 1)) (unwrap_or (clie
 unfoldable pub publish_event : List (List ℕ) → Event
 publish_event ws =
     event.Publish (place_of (word_at ws 1)) (unwrap_or (client_of (word_at ws 2)) 0)
-      (text_of (word_at ws 4)) (octets_of (word_at ws 5)) (not (length ws == 6))
+    (text_of (word_at ws 4)) (octets_of (word_at ws 5)) (not (length ws == 6))
 
 -- `B1 QUEUE1 B2 QUEUE2` of a shovel's line
 unfoldable pub shovel_of : List (List ℕ) → Shovel
 shovel_of ws = record {
-    source = text_of (word_at ws 3); source_queue = text_of (word_at ws 4);
-    target = text_of (word_at ws 5); target_queue = text_of (word_at ws 6); mode = OnConfirm }
+  source = text_of (word_at ws 3);
+  source_queue = text_of (word_at ws 4);
+  target = text_of (word_at ws 5);
+  target_queue = text_of (word_at ws 6);
+  mode = OnConfirm;
+}
 
 -- `shovel P NAME B1 QUEUE1 B2 QUEUE2 MODE`
 unfoldable pub shovel_event : List (List ℕ) → Event

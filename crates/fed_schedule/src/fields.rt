@@ -34,7 +34,10 @@ pub(crate) fn is_run_name(text: &Text) -> bool
     ensures { result ≡ is_run_name text.now }
 {
     let octets = text.as_str().as_bytes();
-    !octets.is_empty() && octets.len() <= 64 && begins_run_name(octets[0]) && are_in_run_name(octets)
+    !octets.is_empty()
+        && octets.len() <= 64
+        && begins_run_name(octets[0])
+        && are_in_run_name(octets)
 }
 
 /// Whether the text is too long for a name.

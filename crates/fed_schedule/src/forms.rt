@@ -100,7 +100,11 @@ pub(crate) fn are_texts(alloc: Global, words: &[Octets]) -> Result<bool, AllocEr
 fn without<'a>(option: &str, words: &'a [Octets]) -> &'a [Octets]
     ensures { result.now ≡ without option.now words.now }
 {
-    if is_word(word_at(words, 0), option) { words_from(words, 1) } else { words }
+    if is_word(word_at(words, 0), option) {
+        words_from(words, 1)
+    } else {
+        words
+    }
 }
 
 /// Whether the words are none, or some of a queue's options in their order.
@@ -127,7 +131,10 @@ fn is_unbuilt_declare(words: &[Octets]) -> bool
     let kind = word_at(words, 3);
     let options = words_from(words, 5);
     is_word(kind, "exchange")
-        || (is_word(kind, "queue") && words.len() >= 5 && are_queue_options(options) && !is_alone("durable", options))
+        || (is_word(kind, "queue")
+            && words.len() >= 5
+            && are_queue_options(options)
+            && !is_alone("durable", options))
 }
 
 fn names_exchange(word: &[u8]) -> bool
@@ -139,7 +146,9 @@ fn names_exchange(word: &[u8]) -> bool
 fn has_header(words: &[Octets]) -> bool
     ensures { result ≡ list_any is_header words.now }
 {
-    words.iter().any(|word| word.as_slice().starts_with(b"header="))
+    words
+        .iter()
+        .any(|word| word.as_slice().starts_with(b"header="))
 }
 
 #[tactic(auto, unfolding(crate::specs::Forms::is_unbuilt_publish))]
@@ -153,13 +162,17 @@ fn is_unbuilt_publish(words: &[Octets]) -> bool
 fn is_shovel_set(events: &[(u32, Event)], place: &Place, name: &Text) -> bool
     ensures { result ≡ list_any (line_sets_shovel place.now name.now) events.now }
 {
-    events
-        .iter()
-        .any(|line| matches!(&line.1, Event::SetShovel { place: at, name: set, .. } if at == place && set == name))
+    events.iter().any(
+        |line| matches!(&line.1, Event::SetShovel { place: at, name: set, .. } if at == place && set == name),
+    )
 }
 
 #[tactic(auto, unfolding(crate::specs::Forms::is_unbuilt_shovel))]
-fn is_unbuilt_shovel(alloc: Global, events: &[(u32, Event)], words: &[Octets]) -> Result<bool, AllocError>
+fn is_unbuilt_shovel(
+    alloc: Global,
+    events: &[(u32, Event)],
+    words: &[Octets],
+) -> Result<bool, AllocError>
     ensures { IfOk result (λ unbuilt. unbuilt ≡ is_unbuilt_shovel events.now words.now) }
 {
     let mode = word_at(words, 7);
@@ -173,7 +186,12 @@ fn is_unbuilt_shovel(alloc: Global, events: &[(u32, Event)], words: &[Octets]) -
 
 /// Whether the form of the line isn't built yet.
 #[tactic(auto, unfolding(crate::specs::Forms::is_unbuilt))]
-pub(crate) fn is_unbuilt(alloc: Global, events: &[(u32, Event)], keyword: Keyword, words: &[Octets]) -> Result<bool, AllocError>
+pub(crate) fn is_unbuilt(
+    alloc: Global,
+    events: &[(u32, Event)],
+    keyword: Keyword,
+    words: &[Octets],
+) -> Result<bool, AllocError>
     ensures { IfOk result (λ unbuilt. unbuilt ≡ is_unbuilt events.now keyword words.now) }
 {
     match keyword {

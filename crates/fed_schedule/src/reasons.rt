@@ -87,7 +87,11 @@ fn has_bad_shovel_names(alloc: Global, words: &[Octets]) -> Result<bool, AllocEr
 
 /// Whether a name is too long, or no run name where it has to be one.
 #[tactic(auto, unfolding(crate::specs::Reasons::has_bad_names))]
-pub(crate) fn has_bad_names(alloc: Global, keyword: Keyword, words: &[Octets]) -> Result<bool, AllocError>
+pub(crate) fn has_bad_names(
+    alloc: Global,
+    keyword: Keyword,
+    words: &[Octets],
+) -> Result<bool, AllocError>
     ensures { IfOk result (λ bad. bad ≡ has_bad_names keyword words.now) }
 {
     match keyword {
@@ -109,7 +113,12 @@ fn is_taken(brokers: &[Text], name: &Text) -> bool
 
 /// Whether the broker's name is taken.
 #[tactic(auto, unfolding(crate::specs::Reasons::is_twice))]
-pub(crate) fn is_twice(alloc: Global, brokers: &[Text], keyword: Keyword, words: &[Octets]) -> Result<bool, AllocError>
+pub(crate) fn is_twice(
+    alloc: Global,
+    brokers: &[Text],
+    keyword: Keyword,
+    words: &[Octets],
+) -> Result<bool, AllocError>
     ensures { IfOk result (λ twice. twice ≡ is_twice brokers.now keyword words.now) }
 {
     match keyword {
@@ -127,7 +136,8 @@ pub(crate) fn has_bad_option(keyword: Keyword, words: &[Octets]) -> bool
     ensures { result ≡ has_bad_option keyword words.now }
 {
     match keyword {
-        Keyword::Declare => !is_word(word_at(words, 3), "queue") || !is_alone("durable", words_from(words, 5)),
+        Keyword::Declare => !is_word(word_at(words, 3), "queue")
+            || !is_alone("durable", words_from(words, 5)),
         Keyword::Publish => words.len() != 6 && !is_alone("persistent", words_from(words, 6)),
         Keyword::Shovel => !is_word(word_at(words, 7), "on-confirm"),
         _ => false,
@@ -161,7 +171,11 @@ fn has_bad_queues(alloc: Global, words: &[Octets]) -> Result<bool, AllocError>
 
 /// Whether a value isn't one that its place takes.
 #[tactic(auto, unfolding(crate::specs::Reasons::has_bad_value))]
-pub(crate) fn has_bad_value(alloc: Global, keyword: Keyword, words: &[Octets]) -> Result<bool, AllocError>
+pub(crate) fn has_bad_value(
+    alloc: Global,
+    keyword: Keyword,
+    words: &[Octets],
+) -> Result<bool, AllocError>
     ensures { IfOk result (λ bad. bad ≡ has_bad_value keyword words.now) }
 {
     match keyword {

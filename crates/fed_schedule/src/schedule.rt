@@ -6,7 +6,9 @@ ghost use Rattle.fed_schedule.specs.Schedule.{reading_of, lines_of, without_retu
 
 use crate::forms::{are_texts, is_miscounted, is_unbuilt, keyword_of};
 use crate::keyword::Keyword;
-use crate::reasons::{has_bad_names, has_bad_number, has_bad_option, has_bad_value, is_late, is_twice};
+use crate::reasons::{
+    has_bad_names, has_bad_number, has_bad_option, has_bad_value, is_late, is_twice,
+};
 use crate::script::{LineReason, MAX_SCHEDULE, ScheduleFault, Script};
 use crate::statement::{Statement, statement_of};
 use crate::words::{is_well_escaped, split, word_at, words_of};
@@ -49,7 +51,12 @@ fn are_well_escaped(words: &[Octets]) -> bool
 
 /// Why the words of a form are refused after a part of a schedule.
 #[tactic(auto, unfolding(crate::specs::Schedule::reason_of))]
-fn reason_of(alloc: Global, script: &Script, keyword: Keyword, words: &[Octets]) -> Result<Option<LineReason>, AllocError>
+fn reason_of(
+    alloc: Global,
+    script: &Script,
+    keyword: Keyword,
+    words: &[Octets],
+) -> Result<Option<LineReason>, AllocError>
     ensures { IfOk result (λ reason. reason ≡ reason_of (reading_of script.now) keyword words.now) }
 {
     if is_unbuilt(alloc, script.events.as_slice(), keyword, words)? {
@@ -84,7 +91,11 @@ fn reason_of(alloc: Global, script: &Script, keyword: Keyword, words: &[Octets])
 
 /// What the words state after a part of a schedule, or why they are refused.
 #[tactic(auto, unfolding(crate::specs::Schedule::judge))]
-fn judge(alloc: Global, script: &Script, words: &[Octets]) -> Result<Result<Statement, LineReason>, AllocError>
+fn judge(
+    alloc: Global,
+    script: &Script,
+    words: &[Octets],
+) -> Result<Result<Statement, LineReason>, AllocError>
     ensures { IfOk result (λ judged. judged ≡ judge (reading_of script.now) words.now) }
 {
     if !are_texts(alloc, words)? {
@@ -101,7 +112,12 @@ fn judge(alloc: Global, script: &Script, words: &[Octets]) -> Result<Result<Stat
 
 /// Adds a line to a part of a schedule.
 #[tactic(auto, unfolding(crate::specs::Schedule::with_line))]
-fn read_line(alloc: Global, script: &mut Script, number: u32, line: &[u8]) -> Result<(), ScheduleFault>
+fn read_line(
+    alloc: Global,
+    script: &mut Script,
+    number: u32,
+    line: &[u8],
+) -> Result<(), ScheduleFault>
     ensures ok { OnOk result (with_line number (reading_of script.old) line.now ≡ Ok (reading_of script.new)) }
     ensures err { IfErr result (λ fault. fault ≢ ScheduleFault.Memory → with_line number (reading_of script.old) line.now ≡ Err fault) }
 {
@@ -112,8 +128,14 @@ fn read_line(alloc: Global, script: &mut Script, number: u32, line: &[u8]) -> Re
     let words = words_of(alloc, line).map_err(|_| ScheduleFault::Memory)?;
     match judge(alloc, script, words.as_slice()).map_err(|_| ScheduleFault::Memory)? {
         Ok(Statement::Broker(name)) => script.brokers.push(name).map_err(|_| ScheduleFault::Memory),
-        Ok(Statement::Event(event)) => script.events.push((number, event)).map_err(|_| ScheduleFault::Memory),
-        Err(reason) => Err(ScheduleFault::Line { line: number, reason }),
+        Ok(Statement::Event(event)) => script
+            .events
+            .push((number, event))
+            .map_err(|_| ScheduleFault::Memory),
+        Err(reason) => Err(ScheduleFault::Line {
+            line: number,
+            reason,
+        }),
     }
 }
 
@@ -147,4 +169,36 @@ pub fn read(alloc: Global, bytes: &[u8]) -> Result<Script, ScheduleFault>
 {
     let lines = lines_of(alloc, bytes).map_err(|_| ScheduleFault::Memory)?;
     read_lines(alloc, lines.as_slice())
+}
+
+#[cfg(test)]
+mod tests {
+    use super::*;
+    use fed_journal::event::Event;
+    use std::test::Fail;
+
+    #[test]
+    fn reads_a_script(rt: HostRuntime) -> Result<(), Fail> {
+        let script = read(rt.alloc(), b"broker a\r\n# b\n\nflush a\nopen s/b:%2f/s")?;
+        assert_eq!(rt; script.brokers.len(), 1);
+        assert_eq!(rt; script.events.len(), 2);
+        let (line, event) = &script.events[1];
+        assert_eq!(rt; *line, 5);
+        assert!(rt; matches!(event, Event::Open { link } if link.as_str() == "s/b/s"));
+        Ok(())
+    }
+
+    #[test]
+    fn refuses_the_first_bad_line(rt: HostRuntime) {
+        let refused = read(rt.alloc(), b"broker a\nbroker a\nflush %");
+        assert!(rt;
+            matches!(
+                refused,
+                Err(ScheduleFault::Line {
+                    line: 2,
+                    reason: LineReason::Twice
+                })
+            )
+        );
+    }
 }

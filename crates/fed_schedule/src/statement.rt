@@ -40,7 +40,11 @@ fn declare_event(alloc: Global, words: &[Octets]) -> Result<Event, AllocError>
     let place = place_of(alloc, word_at(words, 1))?;
     let client = client_of(word_at(words, 2)).unwrap_or(0);
     let queue = text_of(alloc, word_at(words, 4))?;
-    Ok(Event::DeclareQueue { place, client, queue })
+    Ok(Event::DeclareQueue {
+        place,
+        client,
+        queue,
+    })
 }
 
 #[tactic(auto, unfolding(crate::specs::Statements::publish_event))]
@@ -84,12 +88,20 @@ fn shovel_event(alloc: Global, words: &[Octets]) -> Result<Event, AllocError>
     let place = place_of(alloc, word_at(words, 1))?;
     let name = text_of(alloc, word_at(words, 2))?;
     let shovel = shovel_of(alloc, words)?;
-    Ok(Event::SetShovel { place, name, shovel })
+    Ok(Event::SetShovel {
+        place,
+        name,
+        shovel,
+    })
 }
 
 /// What the words of a form state.
 #[tactic(auto, unfolding(crate::specs::Statements::statement_of))]
-pub(crate) fn statement_of(alloc: Global, keyword: Keyword, words: &[Octets]) -> Result<Statement, AllocError>
+pub(crate) fn statement_of(
+    alloc: Global,
+    keyword: Keyword,
+    words: &[Octets],
+) -> Result<Statement, AllocError>
     ensures { IfOk result (λ statement. statement ≡ statement_of keyword words.now) }
 {
     match keyword {

@@ -51,7 +51,11 @@ pub(crate) fn word_at(words: &[Octets], at: usize) -> &[u8]
 pub(crate) fn words_before(words: &[Octets], at: usize) -> &[Octets]
     ensures { result.now ≡ take at words.now }
 {
-    if at < words.len() { &words[..at] } else { words }
+    if at < words.len() {
+        &words[..at]
+    } else {
+        words
+    }
 }
 
 /// The words from a place on.
