@@ -24,10 +24,6 @@ publication_count J = count_by is_publication J
 unfoldable pub copy_count : List Entry → ℕ
 copy_count J = sum_by copies_made J
 
--- a publication goes into fewer than 2^32 queues
-abbrev pub HasFewQueues : Entry → Type 0
-HasFewQueues e = copies_made e < 2 ^ 32
-
 -- the numbers of a publication's copies fit 64 bits
 abbrev pub IsNumbered : Entry → Type 0
 IsNumbered (Published x) = x.first + length x.queues < 2 ^ 64

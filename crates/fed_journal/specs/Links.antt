@@ -30,9 +30,14 @@ spec_of J owner name shovel =
     let source = place_named J (place_at shovel.source owner) in
     let target = place_named J (place_at shovel.target owner) in
     record {
-      name = link; start = start_state source target link; owner = owner;
-      source = source; target = target;
-      source_queue = shovel.source_queue; target_queue = shovel.target_queue; mode = shovel.mode
+      name = link;
+      start = start_state source target link;
+      owner = owner;
+      source = source;
+      target = target;
+      source_queue = shovel.source_queue;
+      target_queue = shovel.target_queue;
+      mode = shovel.mode;
     }
 
 abbrev pub links_set_by : List Entry → List ℕ → Entry → List LinkSpec

@@ -7,16 +7,9 @@ use crate::text::{Names, Text};
 /// Who published a message.
 #[derive(Drop)]
 pub enum Publisher {
-    Client {
-        connection: u16,
-        channel: u16,
-    },
+    Client { connection: u16, channel: u16 },
     /// A session of a link, from a copy that it took.
-    Link {
-        link: Text,
-        session: u32,
-        copy: u64,
-    },
+    Link { link: Text, session: u32, copy: u64 },
 }
 
 /// A publication and the queues that it was routed to.
@@ -51,7 +44,9 @@ pub enum Entry {
     },
     Published(Publication),
     /// The broker stored what it holds.
-    Flushed { broker: Text },
+    Flushed {
+        broker: Text,
+    },
     Took {
         link: Text,
         session: u32,

@@ -32,7 +32,9 @@ pub enum Event {
         persistent: bool,
     },
     /// The broker stores what it holds.
-    Flush { broker: Text },
+    Flush {
+        broker: Text,
+    },
     /// An operator sets a shovel's parameter.
     SetShovel {
         place: Place,
@@ -40,19 +42,33 @@ pub enum Event {
         shovel: Shovel,
     },
     /// The link connects to both of its ends.
-    Open { link: Text },
+    Open {
+        link: Text,
+    },
     /// The source hands a copy to the link.
-    Take { link: Text },
+    Take {
+        link: Text,
+    },
     /// The link sends a message to the target.
-    Send { link: Text },
+    Send {
+        link: Text,
+    },
     /// The target publishes what was sent.
-    Accept { link: Text },
+    Accept {
+        link: Text,
+    },
     /// The target confirms a publication.
-    Confirm { link: Text },
+    Confirm {
+        link: Text,
+    },
     /// The link acknowledges a copy.
-    Note { link: Text },
+    Note {
+        link: Text,
+    },
     /// The source removes an acknowledged copy.
-    Settle { link: Text },
+    Settle {
+        link: Text,
+    },
     /// The listing is printed.
     Show,
 }

@@ -1,6 +1,6 @@
 //! The list of entries, with the numbers that the next publication and its copies get.
 ghost use Rattle.std.specs.Prelude.{◌≡◌, ◌+◌, ◌-◌, ◌*◌, ◌<◌, ◌≤◌, ◌^◌, [], ◌∷◌, ◌++◌, length, Ok, Err, IfOk, OnOk, OnErr, min, vec_capacity, vec_len};
-ghost use Rattle.fed_journal.specs.Copies.{publication_count, copy_count, HasFewQueues};
+ghost use Rattle.fed_journal.specs.Copies.{publication_count, copy_count};
 
 use crate::entry::Entry;
 use std::alloc::{AllocError, Global};
@@ -101,14 +101,13 @@ impl Journal {
     /// Appends an entry. Takes no memory.
     #[tactic(auto, unfolding(crate::specs::Copies::publication_count, crate::specs::Copies::copy_count))]
     pub fn push(&mut self, entry: Entry)
-        requires room { 0 < self.old.room }
-        requires queues { HasFewQueues entry }
+        requires { 0 < self.old.room }
         ensures appended { self.new.entries ≡ self.old.entries ++ entry ∷ [] }
         ensures room { self.old.room ≤ self.new.room + 1 }
     {
         if let Entry::Published(publication) = &entry {
             self.publications += 1;
-            self.copies += publication.queues.as_slice().len() as u64;
+            self.copies += publication.queues.count();
         }
         if self.items.push(entry).is_err() {
             unreachable!()

@@ -9,4 +9,6 @@ pub mod link;
 pub mod message;
 pub mod page;
 pub mod place;
+#[cfg(test)]
+mod tests;
 pub mod text;

@@ -131,7 +131,11 @@ fn hex_digit(digit: u8) -> u8
     ensures value { result ≡ hex_digit digit }
     ensures ascii { result < 128 }
 {
-    if digit < 10 { b'0' + digit } else { b'A' - 10 + digit }
+    if digit < 10 {
+        b'0' + digit
+    } else {
+        b'A' - 10 + digit
+    }
 }
 
 /// The name of the shovel that a place's parameter sets.

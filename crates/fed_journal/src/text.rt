@@ -1,11 +1,10 @@
 //! Names, keys and bodies, which contracts see as the lists of their octets.
-ghost use Rattle.std.specs.Prelude.{◌≡◌, ◌∷◌, List, ℕ, IfOk, OnOk, OnErr, length, string_bytes, nat_eq, codes};
+ghost use Rattle.std.specs.Prelude.{◌≡◌, ◌∷◌, ◌<◌, ◌^◌, List, ℕ, IfOk, OnOk, OnErr, length, string_bytes, nat_eq, codes};
 ghost use Rattle.std.specs.Cmp.Lexicographic.{pointwise};
 ghost use Rattle.std.specs.Cmp.Rules.{comparing};
 ghost use Rattle.std.proofs.Common.{rules};
 ghost use Rattle.std.specs.List.{starts_with};
 ghost use Rattle.fed_journal.specs.Names.{is_reserved};
-
 
 use std::alloc::{AllocError, Global};
 use std::marker::Model;
@@ -110,23 +109,26 @@ impl Clone for Octets {
     }
 }
 
-/// Names in order, seen as their list.
+/// Names in order, fewer than 2^32, seen as their list.
 #[derive(Drop)]
 pub struct Names {
     inner: Vec<Text>,
 }
 
 impl Model for Names {
-    ghost use Rattle.std.specs.Prelude.{List, ℕ};
+    ghost use Rattle.std.specs.Prelude.{List, ℕ, ◌<◌, ◌^◌, length};
 
     ghost Value = { List (List ℕ) };
 
     ghost view = { λ n. n.inner.items };
+
+    ghost invariant = { λ n. length n.inner.items < 2 ^ 32 };
 }
 
 impl Names {
     /// The names of a vector.
     pub fn new(inner: Vec<Text>) -> Self
+        requires { length inner.items < 2 ^ 32 }
         ensures { result ≡ inner.items }
     {
         Names { inner }
@@ -137,6 +139,14 @@ impl Names {
         ensures { result.now ≡ self.now }
     {
         self.inner.as_slice()
+    }
+
+    /// How many names there are.
+    pub fn count(&self) -> u64
+        ensures same { result ≡ length self.now }
+        ensures few { result < 2 ^ 32 }
+    {
+        self.inner.len() as u64
     }
 }
 

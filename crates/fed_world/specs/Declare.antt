@@ -28,5 +28,5 @@ is_refused J p q = same_text q [] || is_reserved q || (is_broker_name q && not (
 unfoldable pub declare_row : List Entry → Place → List ℕ → Row
 declare_row J p q =
     at_place J p (
-      if is_refused J p q then Err (Refused 403) else
-      if stands J p q then Ok [] else Ok (MadeQueue p q lasting ∷ []))
+    if is_refused J p q then Err (Refused 403) else
+    if stands J p q then Ok [] else Ok (MadeQueue p q lasting ∷ []))

@@ -1,6 +1,7 @@
 pub mod Accept
 pub mod Confirm
 pub mod Declare
+pub mod Fits
 pub mod Flush
 pub mod Note
 pub mod Open

@@ -25,8 +25,8 @@ is_target_missing J spec source target =
 abbrev pub opened : List Entry → LinkSpec → Option Place → Option Place → Row
 opened J spec (Some source) (Some target) =
     Ok (made_if (not (stands J source spec.source_queue)) source spec.source_queue
-      ++ made_if (is_target_missing J spec source target) target spec.target_queue
-      ++ Opened spec.name (session J spec.name + 1) (ready_count J source spec.source_queue) ∷ [])
+    ++ made_if (is_target_missing J spec source target) target spec.target_queue
+    ++ Opened spec.name (session J spec.name + 1) (ready_count J source spec.source_queue) ∷ [])
 opened J spec (Some source) None = Err why.NoBroker
 opened J spec None target = Err why.NoBroker
 

@@ -46,4 +46,4 @@ outcome_of (Err reason) = NotNow reason
 -- the entries would pass the journal's limit
 abbrev pub IsOver : List Entry → Row → Type 0
 IsOver J (Ok entries) = MAX_ENTRIES < length J + length entries
-IsOver J (Err reason) = MAX_ENTRIES < length J
+IsOver J (Err reason) = ⊥

@@ -4,3 +4,6 @@
 pub mod reason;
 pub mod row;
 pub mod rows;
+#[cfg(test)]
+mod tests;
+pub mod world;

@@ -10,7 +10,9 @@ use fed_journal::text::Text;
 pub fn is_broker(journal: &[Entry], broker: &Text) -> bool
     ensures { result ≡ is_broker journal.now broker.now }
 {
-    journal.iter().any(|entry| matches!(entry, Entry::Begun { broker: begun, .. } if begun == broker))
+    journal.iter().any(
+        |entry| matches!(entry, Entry::Begun { broker: begun, .. } if begun == broker),
+    )
 }
 
 /// Whether the run has this place.
@@ -28,7 +30,14 @@ pub fn queue_options(journal: &[Entry], place: &Place, queue: &Text) -> Option<Q
 {
     let mut last = None;
     for entry in journal {
-        if let Entry::MadeQueue { place: at, queue: made, options } = entry && at == place && made == queue {
+        if let Entry::MadeQueue {
+            place: at,
+            queue: made,
+            options,
+        } = entry
+            && at == place
+            && made == queue
+        {
             last = Some(*options);
         }
     }

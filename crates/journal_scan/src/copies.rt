@@ -39,7 +39,8 @@ pub fn entered_by(entry: &Entry, place: &Place, queue: &Text) -> Option<u64>
 pub fn is_copy_of(publication: &Publication, copy: u64) -> bool
     ensures { result ≡ is_copy_of publication.now copy }
 {
-    publication.first <= copy && copy - publication.first < publication.queues.as_slice().len() as u64
+    publication.first <= copy
+        && copy - publication.first < publication.queues.as_slice().len() as u64
 }
 
 /// Whether the entry brought the copy into its queue.
@@ -57,9 +58,9 @@ pub fn enters(entry: &Entry, copy: u64) -> bool
 pub fn is_released(journal: &[Entry], copy: u64) -> bool
     ensures { result ≡ is_released journal.now copy }
 {
-    journal
-        .iter()
-        .any(|entry| matches!(entry, Entry::Settled { copy: settled, .. } if *settled == copy))
+    journal.iter().any(
+        |entry| matches!(entry, Entry::Settled { copy: settled, .. } if *settled == copy),
+    )
 }
 
 /// Whether the copy has left its queue.
@@ -86,7 +87,9 @@ pub fn find_publication(journal: &[Entry], number: u64) -> Option<&Publication>
     ensures numbered { All IsNumbered journal.now → IfSome result (λ x. x.now.first + length x.now.queues < 2 ^ 64) }
 {
     for entry in journal {
-        if let Entry::Published(publication) = entry && publication.number == number {
+        if let Entry::Published(publication) = entry
+            && publication.number == number
+        {
             return Some(publication);
         }
     }
@@ -99,7 +102,9 @@ pub fn publication_of(journal: &[Entry], copy: u64) -> Option<&Publication>
     ensures { option_copied result ≡ publication_of copy journal.now }
 {
     for entry in journal {
-        if let Entry::Published(publication) = entry && is_copy_of(publication, copy) {
+        if let Entry::Published(publication) = entry
+            && is_copy_of(publication, copy)
+        {
             return Some(publication);
         }
     }
@@ -129,9 +134,9 @@ fn publication_at(journal: &[Entry], at: usize) -> Option<&Publication>
 fn is_flushed(journal: &[Entry], broker: &Text) -> bool
     ensures { result ≡ list_any (flushes broker.now) journal.now }
 {
-    journal
-        .iter()
-        .any(|entry| matches!(entry, Entry::Flushed { broker: flushed } if flushed == broker))
+    journal.iter().any(
+        |entry| matches!(entry, Entry::Flushed { broker: flushed } if flushed == broker),
+    )
 }
 
 /// Whether the queue, if a name is given, is a lasting one after the journal.
@@ -148,14 +153,18 @@ fn is_lasting_at(journal: &[Entry], place: &Place, queue: Option<&Text>) -> bool
 fn queue_of(publication: &Publication, copy: u64) -> Option<&Text>
     ensures { option_copied result ≡ slice_get publication.now.queues (copy - publication.now.first) }
 {
-    publication.queues.as_slice().get(copy.saturating_sub(publication.first) as usize)
+    publication
+        .queues
+        .as_slice()
+        .get(copy.saturating_sub(publication.first) as usize)
 }
 
 /// Whether a copy of this publication is one that its broker has to store, where the journal is that before it.
 fn must_be_stored_at(before: &[Entry], publication: &Publication, copy: u64) -> bool
     ensures { result ≡ must_be_stored_at before.now (Some publication.now) copy }
 {
-    publication.message.persistent && is_lasting_at(before, &publication.place, queue_of(publication, copy))
+    publication.message.persistent
+        && is_lasting_at(before, &publication.place, queue_of(publication, copy))
 }
 
 /// Whether the copy's message is persistent and its queue is lasting.

@@ -19,7 +19,13 @@ fn is_number(number: u64, found: Option<u64>) -> bool
 }
 
 /// The number, if the session is this one.
-fn of_session(link: &Text, session: u32, found_link: &Text, found_session: u32, number: u64) -> Option<u64>
+fn of_session(
+    link: &Text,
+    session: u32,
+    found_link: &Text,
+    found_session: u32,
+    number: u64,
+) -> Option<u64>
     ensures { result ≡ of_session link.now session found_link.now found_session number }
 {
     if found_link == link && found_session == session {
@@ -35,7 +41,11 @@ fn copy_published_by(by: &Publisher, link: &Text, session: u32) -> Option<u64>
 {
     match by {
         Publisher::Client { .. } => None,
-        Publisher::Link { link: found, session: number, copy } => of_session(link, session, found, *number, *copy),
+        Publisher::Link {
+            link: found,
+            session: number,
+            copy,
+        } => of_session(link, session, found, *number, *copy),
     }
 }
 
@@ -44,7 +54,11 @@ fn taken_by(entry: &Entry, link: &Text, session: u32) -> Option<u64>
     ensures { result ≡ taken_by link.now session entry.now }
 {
     match entry {
-        Entry::Took { link: found, session: number, copy } => of_session(link, session, found, *number, *copy),
+        Entry::Took {
+            link: found,
+            session: number,
+            copy,
+        } => of_session(link, session, found, *number, *copy),
         _ => None,
     }
 }
@@ -54,7 +68,11 @@ fn sent_by(entry: &Entry, link: &Text, session: u32) -> Option<u64>
     ensures { result ≡ sent_by link.now session entry.now }
 {
     match entry {
-        Entry::Sent { link: found, session: number, copy } => of_session(link, session, found, *number, *copy),
+        Entry::Sent {
+            link: found,
+            session: number,
+            copy,
+        } => of_session(link, session, found, *number, *copy),
         _ => None,
     }
 }
@@ -64,7 +82,11 @@ fn confirmed_to(entry: &Entry, link: &Text, session: u32) -> Option<u64>
     ensures { result ≡ confirmed_to link.now session entry.now }
 {
     match entry {
-        Entry::Confirmed { link: found, session: number, publication } => of_session(link, session, found, *number, *publication),
+        Entry::Confirmed {
+            link: found,
+            session: number,
+            publication,
+        } => of_session(link, session, found, *number, *publication),
         _ => None,
     }
 }
@@ -74,7 +96,11 @@ fn noted_by(entry: &Entry, link: &Text, session: u32) -> Option<u64>
     ensures { result ≡ noted_by link.now session entry.now }
 {
     match entry {
-        Entry::Noted { link: found, session: number, copy } => of_session(link, session, found, *number, *copy),
+        Entry::Noted {
+            link: found,
+            session: number,
+            copy,
+        } => of_session(link, session, found, *number, *copy),
         _ => None,
     }
 }
@@ -84,7 +110,11 @@ fn settled_for(entry: &Entry, link: &Text, session: u32) -> Option<u64>
     ensures { result ≡ settled_for link.now session entry.now }
 {
     match entry {
-        Entry::Settled { link: found, session: number, copy } => of_session(link, session, found, *number, *copy),
+        Entry::Settled {
+            link: found,
+            session: number,
+            copy,
+        } => of_session(link, session, found, *number, *copy),
         _ => None,
     }
 }
@@ -127,7 +157,11 @@ fn confirmed_copy(journal: &[Entry], entry: &Entry, link: &Text, session: u32) -
     ensures { result ≡ confirmed_copy journal.now link.now session entry.now }
 {
     match confirmed_to(entry, link, session) {
-        Some(publication) => copy_of_publication(find_publication(journal, publication), link, session),
+        Some(publication) => copy_of_publication(
+            find_publication(journal, publication),
+            link,
+            session,
+        ),
         None => None,
     }
 }
@@ -136,7 +170,9 @@ fn confirmed_copy(journal: &[Entry], entry: &Entry, link: &Text, session: u32) -
 fn is_sent(journal: &[Entry], link: &Text, session: u32, copy: u64) -> bool
     ensures { result ≡ has (sent_by link.now session) copy journal.now }
 {
-    journal.iter().any(|entry| is_number(copy, sent_by(entry, link, session)))
+    journal
+        .iter()
+        .any(|entry| is_number(copy, sent_by(entry, link, session)))
 }
 
 /// Whether the target published from the copy, in the session.
@@ -157,19 +193,28 @@ fn is_confirmed(journal: &[Entry], link: &Text, session: u32, publication: u64) 
 fn is_noted(journal: &[Entry], link: &Text, session: u32, copy: u64) -> bool
     ensures { result ≡ has (noted_by link.now session) copy journal.now }
 {
-    journal.iter().any(|entry| is_number(copy, noted_by(entry, link, session)))
+    journal
+        .iter()
+        .any(|entry| is_number(copy, noted_by(entry, link, session)))
 }
 
 /// Whether the source removed the copy, in the session.
 fn is_settled(journal: &[Entry], link: &Text, session: u32, copy: u64) -> bool
     ensures { result ≡ has (settled_for link.now session) copy journal.now }
 {
-    journal.iter().any(|entry| is_number(copy, settled_for(entry, link, session)))
+    journal
+        .iter()
+        .any(|entry| is_number(copy, settled_for(entry, link, session)))
 }
 
 /// The copies taken and not sent on, in the order of taking.
 #[tactic(auto, unfolding(fed_journal::specs::Flight::flight_took))]
-pub fn flight_took(alloc: Global, journal: &[Entry], link: &Text, session: u32) -> Result<Vec<u64>, AllocError>
+pub fn flight_took(
+    alloc: Global,
+    journal: &[Entry],
+    link: &Text,
+    session: u32,
+) -> Result<Vec<u64>, AllocError>
     ensures { IfOk result (λ list. list.items ≡ flight_took journal.now link.now session) }
 {
     journal
@@ -181,7 +226,12 @@ pub fn flight_took(alloc: Global, journal: &[Entry], link: &Text, session: u32) 
 
 /// The copies sent on and not published, in the order of sending.
 #[tactic(auto, unfolding(fed_journal::specs::Flight::flight_sent))]
-pub fn flight_sent(alloc: Global, journal: &[Entry], link: &Text, session: u32) -> Result<Vec<u64>, AllocError>
+pub fn flight_sent(
+    alloc: Global,
+    journal: &[Entry],
+    link: &Text,
+    session: u32,
+) -> Result<Vec<u64>, AllocError>
     ensures { IfOk result (λ list. list.items ≡ flight_sent journal.now link.now session) }
 {
     journal
@@ -193,7 +243,12 @@ pub fn flight_sent(alloc: Global, journal: &[Entry], link: &Text, session: u32) 
 
 /// The publications that are not confirmed, in their order.
 #[tactic(auto, unfolding(fed_journal::specs::Flight::flight_published))]
-pub fn flight_published(alloc: Global, journal: &[Entry], link: &Text, session: u32) -> Result<Vec<u64>, AllocError>
+pub fn flight_published(
+    alloc: Global,
+    journal: &[Entry],
+    link: &Text,
+    session: u32,
+) -> Result<Vec<u64>, AllocError>
     ensures { IfOk result (λ list. list.items ≡ flight_published journal.now link.now session) }
 {
     journal
@@ -205,7 +260,12 @@ pub fn flight_published(alloc: Global, journal: &[Entry], link: &Text, session: 
 
 /// The copies whose publication is confirmed and that the link has not acknowledged, in the order of confirms.
 #[tactic(auto, unfolding(fed_journal::specs::Flight::flight_confirmed))]
-pub fn flight_confirmed(alloc: Global, journal: &[Entry], link: &Text, session: u32) -> Result<Vec<u64>, AllocError>
+pub fn flight_confirmed(
+    alloc: Global,
+    journal: &[Entry],
+    link: &Text,
+    session: u32,
+) -> Result<Vec<u64>, AllocError>
     ensures { IfOk result (λ list. list.items ≡ flight_confirmed journal.now link.now session) }
 {
     journal
@@ -217,7 +277,12 @@ pub fn flight_confirmed(alloc: Global, journal: &[Entry], link: &Text, session: 
 
 /// The copies acknowledged and not removed, in the order of acknowledgements.
 #[tactic(auto, unfolding(fed_journal::specs::Flight::flight_noted))]
-pub fn flight_noted(alloc: Global, journal: &[Entry], link: &Text, session: u32) -> Result<Vec<u64>, AllocError>
+pub fn flight_noted(
+    alloc: Global,
+    journal: &[Entry],
+    link: &Text,
+    session: u32,
+) -> Result<Vec<u64>, AllocError>
     ensures { IfOk result (λ list. list.items ≡ flight_noted journal.now link.now session) }
 {
     journal

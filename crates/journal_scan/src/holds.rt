@@ -15,7 +15,9 @@ fn is_handed_out(journal: &[Entry], copy: u64) -> bool
 {
     let mut held = false;
     for entry in journal {
-        if let Entry::Took { copy: taken, .. } = entry && *taken == copy {
+        if let Entry::Took { copy: taken, .. } = entry
+            && *taken == copy
+        {
             held = true;
         }
     }
@@ -51,7 +53,12 @@ pub fn first_ready(journal: &[Entry], place: &Place, queue: &Text) -> Option<u64
 
 /// Every copy that ever entered the queue, by rising number.
 #[tactic(auto, unfolding(fed_journal::specs::Copies::entered))]
-pub fn entered(alloc: Global, journal: &[Entry], place: &Place, queue: &Text) -> Result<Vec<u64>, AllocError>
+pub fn entered(
+    alloc: Global,
+    journal: &[Entry],
+    place: &Place,
+    queue: &Text,
+) -> Result<Vec<u64>, AllocError>
     requires { All IsNumbered journal.now }
     ensures { IfOk result (λ copies. copies.items ≡ entered journal.now place.now queue.now) }
 {
@@ -63,10 +70,20 @@ pub fn entered(alloc: Global, journal: &[Entry], place: &Place, queue: &Text) ->
 
 /// How many copies of the queue are ready.
 #[tactic(auto, unfolding(fed_journal::specs::Holds::ready_count))]
-pub fn ready_count(alloc: Global, journal: &[Entry], place: &Place, queue: &Text) -> Result<usize, AllocError>
+pub fn ready_count(
+    alloc: Global,
+    journal: &[Entry],
+    place: &Place,
+    queue: &Text,
+) -> Result<usize, AllocError>
     requires { All IsNumbered journal.now }
     ensures { IfOk result (λ count. count ≡ ready_count journal.now place.now queue.now) }
 {
     let copies = entered(alloc, journal, place, queue)?;
-    Ok(copies.iter().filter(|copy| is_ready(journal, **copy)).count())
+    Ok(
+        copies
+            .iter()
+            .filter(|copy| is_ready(journal, **copy))
+            .count(),
+    )
 }

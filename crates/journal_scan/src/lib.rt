@@ -7,3 +7,5 @@ pub mod flight;
 pub mod holds;
 pub mod links;
 pub mod phases;
+#[cfg(test)]
+mod tests;

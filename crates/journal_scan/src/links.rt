@@ -12,7 +12,12 @@ use fed_journal::text::Text;
 use std::alloc::{AllocError, Global};
 
 /// The place that a URI with this host names, where it is one of the run.
-fn place_named(alloc: Global, journal: &[Entry], broker: &Text, owner: &Place) -> Result<Option<Place>, AllocError>
+fn place_named(
+    alloc: Global,
+    journal: &[Entry],
+    broker: &Text,
+    owner: &Place,
+) -> Result<Option<Place>, AllocError>
     ensures { IfOk result (λ place. place ≡ place_named journal.now (place_at broker.now owner.now)) }
 {
     let place = Place {
@@ -41,7 +46,13 @@ fn start_state(source: &Option<Place>, target: &Option<Place>, name: &Text) -> S
 
 /// The link of a shovel's parameter.
 #[tactic(auto, unfolding(fed_journal::specs::Links::spec_of))]
-fn spec_of(alloc: Global, journal: &[Entry], owner: &Place, name: &Text, shovel: &Shovel) -> Result<LinkSpec, AllocError>
+fn spec_of(
+    alloc: Global,
+    journal: &[Entry],
+    owner: &Place,
+    name: &Text,
+    shovel: &Shovel,
+) -> Result<LinkSpec, AllocError>
     ensures { IfOk result (λ spec. spec ≡ spec_of journal.now owner.now name.now shovel.now) }
 {
     let link = shovel_link_name(alloc, owner, name)?;
@@ -60,17 +71,34 @@ fn spec_of(alloc: Global, journal: &[Entry], owner: &Place, name: &Text, shovel:
 }
 
 /// Appends the link that the entry sets, if the broker owns it.
-fn push_link(alloc: Global, journal: &[Entry], broker: &Text, entry: &Entry, links: &mut Vec<LinkSpec>) -> Result<(), AllocError>
+fn push_link(
+    alloc: Global,
+    journal: &[Entry],
+    broker: &Text,
+    entry: &Entry,
+    links: &mut Vec<LinkSpec>,
+) -> Result<(), AllocError>
     ensures { OnOk result (links.new.items ≡ links.old.items ++ links_set_by journal.now broker.now entry.now) }
 {
-    if let Entry::ShovelSet { place, name, shovel } = entry && &place.broker == broker {
+    if let Entry::ShovelSet {
+        place,
+        name,
+        shovel,
+    } = entry
+        && &place.broker == broker
+    {
         links.push(spec_of(alloc, journal, place, name, shovel)?)?;
     }
     Ok(())
 }
 
 /// Appends the links that the broker owns, in the order of setting.
-fn push_links(alloc: Global, journal: &[Entry], broker: &Text, links: &mut Vec<LinkSpec>) -> Result<(), AllocError>
+fn push_links(
+    alloc: Global,
+    journal: &[Entry],
+    broker: &Text,
+    links: &mut Vec<LinkSpec>,
+) -> Result<(), AllocError>
     ensures { OnOk result (links.new.items ≡ links.old.items ++ flat_map (links_set_by journal.now broker.now) journal.now) }
 {
     for entry in journal {
@@ -80,7 +108,12 @@ fn push_links(alloc: Global, journal: &[Entry], broker: &Text, links: &mut Vec<L
 }
 
 /// Appends the links of the broker that the entry begins, if it begins one.
-fn push_links_of_broker(alloc: Global, journal: &[Entry], entry: &Entry, links: &mut Vec<LinkSpec>) -> Result<(), AllocError>
+fn push_links_of_broker(
+    alloc: Global,
+    journal: &[Entry],
+    entry: &Entry,
+    links: &mut Vec<LinkSpec>,
+) -> Result<(), AllocError>
     ensures { OnOk result (links.new.items ≡ links.old.items ++ links_of_broker journal.now entry.now) }
 {
     match entry {
@@ -103,7 +136,11 @@ pub fn links_of(alloc: Global, journal: &[Entry]) -> Result<Vec<LinkSpec>, Alloc
 
 /// The link of that name.
 #[tactic(auto, unfolding(fed_journal::specs::Links::link_of))]
-pub fn link_of(alloc: Global, journal: &[Entry], link: &Text) -> Result<Option<LinkSpec>, AllocError>
+pub fn link_of(
+    alloc: Global,
+    journal: &[Entry],
+    link: &Text,
+) -> Result<Option<LinkSpec>, AllocError>
     ensures { IfOk result (λ spec. spec ≡ link_of journal.now link.now) }
 {
     let links = links_of(alloc, journal)?;
@@ -115,7 +152,7 @@ pub fn link_of(alloc: Global, journal: &[Entry], link: &Text) -> Result<Option<L
 pub fn is_shovel_set(journal: &[Entry], place: &Place, name: &Text) -> bool
     ensures { result ≡ is_shovel_set journal.now place.now name.now }
 {
-    journal
-        .iter()
-        .any(|entry| matches!(entry, Entry::ShovelSet { place: at, name: set, .. } if at == place && set == name))
+    journal.iter().any(
+        |entry| matches!(entry, Entry::ShovelSet { place: at, name: set, .. } if at == place && set == name),
+    )
 }

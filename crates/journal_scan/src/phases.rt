@@ -13,7 +13,13 @@ pub fn session(journal: &[Entry], link: &Text) -> u32
 {
     let mut last = 0;
     for entry in journal {
-        if let Entry::Opened { link: opened, session, .. } = entry && opened == link {
+        if let Entry::Opened {
+            link: opened,
+            session,
+            ..
+        } = entry
+            && opened == link
+        {
             last = *session;
         }
     }
@@ -27,7 +33,9 @@ pub fn phase(journal: &[Entry], link: &Text) -> Phase
 {
     let mut last = Phase::Gone;
     for entry in journal {
-        if let Entry::Opened { link: opened, .. } = entry && opened == link {
+        if let Entry::Opened { link: opened, .. } = entry
+            && opened == link
+        {
             last = Phase::Open;
         }
     }

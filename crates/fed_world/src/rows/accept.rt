@@ -33,7 +33,14 @@ fn outgoing(alloc: Global, spec: &LinkSpec, message: &Message) -> Result<Message
 }
 
 /// What the link publishes at the target for a copy of that publication.
-fn accepted(alloc: Global, journal: &[Entry], spec: &LinkSpec, copy: u64, publication: Option<&Publication>, next: Numbers) -> Result<Row, AllocError>
+fn accepted(
+    alloc: Global,
+    journal: &[Entry],
+    spec: &LinkSpec,
+    copy: u64,
+    publication: Option<&Publication>,
+    next: Numbers,
+) -> Result<Row, AllocError>
     requires publication { next.publication ≡ publication_count journal.now + 1 }
     requires copy { next.copy ≡ copy_count journal.now + 1 }
     ensures { IfOk result (λ row. row_of row ≡ accepted journal.now spec.now copy spec.now.target (option_copied publication.entry)) }
@@ -55,7 +62,12 @@ fn accepted(alloc: Global, journal: &[Entry], spec: &LinkSpec, copy: u64, public
 
 /// The row of `accept`.
 #[tactic(auto, unfolding(crate::specs::Accept::accept_row))]
-pub fn accept_row(alloc: Global, journal: &[Entry], link: &Text, next: Numbers) -> Result<Row, AllocError>
+pub fn accept_row(
+    alloc: Global,
+    journal: &[Entry],
+    link: &Text,
+    next: Numbers,
+) -> Result<Row, AllocError>
     requires publication { next.publication ≡ publication_count journal.now + 1 }
     requires copy { next.copy ≡ copy_count journal.now + 1 }
     ensures { IfOk result (λ row. row_of row ≡ accept_row journal.now link.now) }
@@ -68,7 +80,14 @@ pub fn accept_row(alloc: Global, journal: &[Entry], link: &Text, next: Numbers) 
     }
     let session = session(journal, link);
     match flight_sent(alloc, journal, link, session)?.first() {
-        Some(copy) => accepted(alloc, journal, &spec, *copy, publication_of(journal, *copy), next),
+        Some(copy) => accepted(
+            alloc,
+            journal,
+            &spec,
+            *copy,
+            publication_of(journal, *copy),
+            next,
+        ),
         None => Ok(Err(Reason::Empty)),
     }
 }

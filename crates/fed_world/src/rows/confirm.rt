@@ -26,7 +26,13 @@ fn first_secured(journal: &[Entry], publications: &[u64]) -> Option<u64>
 }
 
 /// The confirm of the first of the publications that is secured, if one waits.
-fn confirm_first(alloc: Global, journal: &[Entry], link: &Text, session: u32, publications: &[u64]) -> Result<Row, AllocError>
+fn confirm_first(
+    alloc: Global,
+    journal: &[Entry],
+    link: &Text,
+    session: u32,
+    publications: &[u64],
+) -> Result<Row, AllocError>
     requires { All IsNumbered journal.now }
     ensures { IfOk result (λ row. row_of row ≡ confirm_first journal.now link.now session publications.now) }
 {
@@ -36,7 +42,14 @@ fn confirm_first(alloc: Global, journal: &[Entry], link: &Text, session: u32, pu
     match first_secured(journal, publications) {
         Some(publication) => {
             let link = link.clone()?;
-            one(alloc, Entry::Confirmed { link, session, publication })
+            one(
+                alloc,
+                Entry::Confirmed {
+                    link,
+                    session,
+                    publication,
+                },
+            )
         }
         None => Ok(Err(Reason::Unsecured)),
     }

@@ -43,7 +43,12 @@ fn is_refused(journal: &[Entry], place: &Place, queue: &Text) -> bool
 
 /// The row of `declare`.
 #[tactic(auto, unfolding(crate::specs::Declare::declare_row))]
-pub fn declare_row(alloc: Global, journal: &[Entry], place: &Place, queue: &Text) -> Result<Row, AllocError>
+pub fn declare_row(
+    alloc: Global,
+    journal: &[Entry],
+    place: &Place,
+    queue: &Text,
+) -> Result<Row, AllocError>
     ensures { IfOk result (λ row. row_of row ≡ declare_row journal.now place.now queue.now) }
 {
     if !is_place(journal, place) {

@@ -12,7 +12,6 @@ use journal_scan::links::link_of;
 use journal_scan::phases::{is_open, session};
 use std::alloc::{AllocError, Global};
 
-
 /// The row of `note`.
 #[tactic(auto, unfolding(crate::specs::Note::note_row))]
 pub fn note_row(alloc: Global, journal: &[Entry], link: &Text) -> Result<Row, AllocError>
@@ -28,7 +27,14 @@ pub fn note_row(alloc: Global, journal: &[Entry], link: &Text) -> Result<Row, Al
     match flight_confirmed(alloc, journal, link, session)?.first() {
         Some(copy) => {
             let link = link.clone()?;
-            one(alloc, Entry::Noted { link, session, copy: *copy })
+            one(
+                alloc,
+                Entry::Noted {
+                    link,
+                    session,
+                    copy: *copy,
+                },
+            )
         }
         None => Ok(Err(Reason::Empty)),
     }

@@ -18,7 +18,12 @@ use journal_scan::phases::{is_open, session};
 use std::alloc::{AllocError, Global};
 
 /// Appends the queue's declaration, where it is missing.
-fn push_made(missing: bool, place: &Place, queue: &Text, entries: &mut Vec<Entry>) -> Result<(), AllocError>
+fn push_made(
+    missing: bool,
+    place: &Place,
+    queue: &Text,
+    entries: &mut Vec<Entry>,
+) -> Result<(), AllocError>
     ensures { OnOk result (entries.new.items ≡ entries.old.items ++ made_if missing place.now queue.now) }
 {
     if missing {
@@ -37,7 +42,8 @@ fn push_made(missing: bool, place: &Place, queue: &Text, entries: &mut Vec<Entry
 fn is_target_missing(journal: &[Entry], spec: &LinkSpec, source: &Place, target: &Place) -> bool
     ensures { result ≡ is_target_missing journal.now spec.now source.now target.now }
 {
-    !(stands(journal, target, &spec.target_queue) || (target == source && spec.target_queue == spec.source_queue))
+    !(stands(journal, target, &spec.target_queue)
+        || (target == source && spec.target_queue == spec.source_queue))
 }
 
 /// What a session's beginning appends.
@@ -49,8 +55,18 @@ fn opened(alloc: Global, journal: &[Entry], spec: &LinkSpec) -> Result<Row, Allo
         return Ok(Err(Reason::NoBroker));
     };
     let mut entries = Vec::new(alloc);
-    push_made(!stands(journal, source, &spec.source_queue), source, &spec.source_queue, &mut entries)?;
-    push_made(is_target_missing(journal, spec, source, target), target, &spec.target_queue, &mut entries)?;
+    push_made(
+        !stands(journal, source, &spec.source_queue),
+        source,
+        &spec.source_queue,
+        &mut entries,
+    )?;
+    push_made(
+        is_target_missing(journal, spec, source, target),
+        target,
+        &spec.target_queue,
+        &mut entries,
+    )?;
     let ready = ready_count(alloc, journal, source, &spec.source_queue)? as u64;
     entries.push(Entry::Opened {
         link: spec.name.clone()?,

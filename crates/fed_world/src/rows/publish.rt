@@ -17,7 +17,12 @@ use journal_scan::configuration::is_place;
 use std::alloc::{AllocError, Global};
 
 /// The queues that the default exchange routes the message to.
-fn routes(alloc: Global, journal: &[Entry], place: &Place, message: &Message) -> Result<Names, AllocError>
+fn routes(
+    alloc: Global,
+    journal: &[Entry],
+    place: &Place,
+    message: &Message,
+) -> Result<Names, AllocError>
     ensures { IfOk result (λ queues. queues ≡ routes journal.now place.now message.now) }
 {
     let mut queues = Vec::new(alloc);
@@ -31,11 +36,22 @@ fn routes(alloc: Global, journal: &[Entry], place: &Place, message: &Message) ->
 fn first_copy(queues: &Names, next: Numbers) -> u64
     ensures { (J : List Entry) → next.copy ≡ copy_count J + 1 → result ≡ first_copy J queues.now }
 {
-    if queues.as_slice().is_empty() { 0 } else { next.copy }
+    if queues.as_slice().is_empty() {
+        0
+    } else {
+        next.copy
+    }
 }
 
 /// The entry of a message that is published.
-pub(crate) fn published(alloc: Global, journal: &[Entry], place: &Place, by: Publisher, message: Message, next: Numbers) -> Result<Entry, AllocError>
+pub(crate) fn published(
+    alloc: Global,
+    journal: &[Entry],
+    place: &Place,
+    by: Publisher,
+    message: Message,
+    next: Numbers,
+) -> Result<Entry, AllocError>
     requires publication { next.publication ≡ publication_count journal.now + 1 }
     requires copy { next.copy ≡ copy_count journal.now + 1 }
     ensures { IfOk result (λ entry. entry ≡ published journal.now place.now by message) }
@@ -56,7 +72,16 @@ pub(crate) fn published(alloc: Global, journal: &[Entry], place: &Place, by: Pub
 
 /// The row of a client's `publish`.
 #[tactic(auto, unfolding(crate::specs::Publish::publish_row))]
-pub fn publish_row(alloc: Global, journal: &[Entry], place: &Place, client: u16, key: &Text, body: &Octets, persistent: bool, next: Numbers) -> Result<Row, AllocError>
+pub fn publish_row(
+    alloc: Global,
+    journal: &[Entry],
+    place: &Place,
+    client: u16,
+    key: &Text,
+    body: &Octets,
+    persistent: bool,
+    next: Numbers,
+) -> Result<Row, AllocError>
     requires publication { next.publication ≡ publication_count journal.now + 1 }
     requires copy { next.copy ≡ copy_count journal.now + 1 }
     ensures { IfOk result (λ row. row_of row ≡ publish_row journal.now place.now client key.now body.now persistent) }

@@ -12,7 +12,6 @@ use journal_scan::links::link_of;
 use journal_scan::phases::{is_open, session};
 use std::alloc::{AllocError, Global};
 
-
 /// The row of `send`.
 #[tactic(auto, unfolding(crate::specs::Send::send_row))]
 pub fn send_row(alloc: Global, journal: &[Entry], link: &Text) -> Result<Row, AllocError>
@@ -28,7 +27,14 @@ pub fn send_row(alloc: Global, journal: &[Entry], link: &Text) -> Result<Row, Al
     match flight_took(alloc, journal, link, session)?.first() {
         Some(copy) => {
             let link = link.clone()?;
-            one(alloc, Entry::Sent { link, session, copy: *copy })
+            one(
+                alloc,
+                Entry::Sent {
+                    link,
+                    session,
+                    copy: *copy,
+                },
+            )
         }
         None => Ok(Err(Reason::Empty)),
     }

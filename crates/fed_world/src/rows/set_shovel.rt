@@ -15,7 +15,13 @@ use std::alloc::{AllocError, Global};
 
 /// The row of `shovel`.
 #[tactic(auto, unfolding(crate::specs::SetShovel::set_shovel_row))]
-pub fn set_shovel_row(alloc: Global, journal: &[Entry], place: &Place, name: &Text, shovel: &Shovel) -> Result<Row, AllocError>
+pub fn set_shovel_row(
+    alloc: Global,
+    journal: &[Entry],
+    place: &Place,
+    name: &Text,
+    shovel: &Shovel,
+) -> Result<Row, AllocError>
     ensures { IfOk result (λ row. row_of row ≡ set_shovel_row journal.now place.now name.now shovel.now) }
 {
     if !is_place(journal, place) {
@@ -27,5 +33,12 @@ pub fn set_shovel_row(alloc: Global, journal: &[Entry], place: &Place, name: &Te
     let place = place.clone()?;
     let name = name.clone()?;
     let shovel = shovel.clone()?;
-    one(alloc, Entry::ShovelSet { place, name, shovel })
+    one(
+        alloc,
+        Entry::ShovelSet {
+            place,
+            name,
+            shovel,
+        },
+    )
 }

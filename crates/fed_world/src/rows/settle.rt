@@ -12,7 +12,6 @@ use journal_scan::links::link_of;
 use journal_scan::phases::{is_open, session};
 use std::alloc::{AllocError, Global};
 
-
 /// The row of `settle`.
 #[tactic(auto, unfolding(crate::specs::Settle::settle_row))]
 pub fn settle_row(alloc: Global, journal: &[Entry], link: &Text) -> Result<Row, AllocError>
@@ -28,7 +27,14 @@ pub fn settle_row(alloc: Global, journal: &[Entry], link: &Text) -> Result<Row, 
     match flight_noted(alloc, journal, link, session)?.first() {
         Some(copy) => {
             let link = link.clone()?;
-            one(alloc, Entry::Settled { link, session, copy: *copy })
+            one(
+                alloc,
+                Entry::Settled {
+                    link,
+                    session,
+                    copy: *copy,
+                },
+            )
         }
         None => Ok(Err(Reason::Empty)),
     }

@@ -41,7 +41,14 @@ pub fn take_row(alloc: Global, journal: &[Entry], link: &Text) -> Result<Row, Al
         Some(copy) => {
             let session = session(journal, link);
             let link = link.clone()?;
-            one(alloc, Entry::Took { link, session, copy })
+            one(
+                alloc,
+                Entry::Took {
+                    link,
+                    session,
+                    copy,
+                },
+            )
         }
         None => Ok(Err(Reason::Empty)),
     }

@@ -1,0 +1,4 @@
+pub mod EscapeLemmas
+pub mod HostLemmas
+pub mod PlaceLemmas
+pub mod PortLemmas

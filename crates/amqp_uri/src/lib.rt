@@ -1,0 +1,12 @@
+//! AMQP URIs, as RabbitMQ's "AMQP URI Specification" gives them.
+#![tactic(auto)]
+
+mod escape;
+mod fault;
+mod parts;
+#[cfg(test)]
+mod tests;
+mod uri;
+
+pub use fault::UriFault;
+pub use uri::AmqpUri;

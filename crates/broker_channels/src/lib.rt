@@ -1,0 +1,8 @@
+//! What a broker keeps of one channel: its delivery tags, the prefetch windows, and what is unacknowledged.
+#![tactic(auto)]
+
+mod channel;
+mod delivery;
+
+pub use channel::{Channel, SettleFault};
+pub use delivery::{Consumer, CopyNo, Delivery};

@@ -1,0 +1,159 @@
+ghost use Rattle.std.specs.Prelude.{◌≡◌, false, [], ◌∷◌, ◌++◌, Some, OnOk, OnErr, min};
+ghost use Rattle.std.specs.Option.{option_map_or};
+ghost use Rattle.confirm_core.specs.Waits.{is_open, released, without, ready_numbers, least};
+
+use crate::publication::Publication;
+use std::alloc::{AllocError, Global};
+use std::marker::Model;
+
+/// The open publications of a broker, in the order in which they were opened.
+#[derive(Drop)]
+pub struct Ledger {
+    alloc: Global,
+    publications: Vec<Publication>,
+}
+
+impl Model for Ledger {
+    ghost use Rattle.std.specs.Prelude.{List};
+    ghost use Rattle.confirm_core.specs.Waits.{Unconfirmed};
+
+    ghost Value = { List Unconfirmed };
+
+    ghost view = { λ l. l.publications.items };
+}
+
+impl Ledger {
+    /// A ledger without open publications, which keeps the allocator for those that are opened.
+    pub fn new(alloc: Global) -> Ledger
+        ensures { result ≡ [] }
+    {
+        Ledger {
+            alloc,
+            publications: Vec::new(alloc),
+        }
+    }
+
+    /// Opens a publication that waits for these copies; one that waits for none is ready at once.
+    ///
+    /// # Errors
+    ///
+    /// For want of memory; the ledger is then as it was.
+    pub fn open(&mut self, number: u64, waits: &[u64]) -> Result<(), AllocError>
+        requires { is_open number self.old ≡ false }
+        ensures ok { OnOk result (self.new ≡ self.old ++ (record { number = number; waits = waits.now }) ∷ []) }
+        ensures err { OnErr result (self.new ≡ self.old) }
+    {
+        let publication = Publication::new(self.alloc, number, waits)?;
+        self.publications.push(publication)?;
+        Ok(())
+    }
+
+    /// The copy was stored, so no publication waits for it any more.
+    pub fn stored(&mut self, copy: u64)
+        ensures { self.new ≡ released copy self.old }
+    {
+        release_all(&mut self.publications, copy);
+    }
+
+    /// The copy left its queue in another way than loss, so no publication waits for it any more.
+    pub fn left(&mut self, copy: u64)
+        ensures { self.new ≡ released copy self.old }
+    {
+        release_all(&mut self.publications, copy);
+    }
+
+    /// The least number that waits for nothing; None exactly where there is none.
+    pub fn next_ready(&self) -> Option<u64>
+        ensures { result ≡ least (ready_numbers self.now) }
+    {
+        let mut found = None;
+        for publication in &self.publications {
+            if publication.is_ready() {
+                found = lesser(found, publication.number());
+            }
+        }
+        found
+    }
+
+    /// Closes the publication, since it is answered; false exactly where it isn't open.
+    pub fn answered(&mut self, number: u64) -> bool
+        ensures was_open { result ≡ is_open number self.old }
+        ensures closed { self.new ≡ without number self.old }
+    {
+        let was_open = is_among(&self.publications, number);
+        remove(&mut self.publications, number);
+        was_open
+    }
+}
+
+/// The lesser of what was found and one more number.
+fn lesser(found: Option<u64>, number: u64) -> Option<u64>
+    ensures { result ≡ Some (option_map_or (min number) found number) }
+{
+    match found {
+        None => Some(number),
+        Some(other) => Some(number.min(other)),
+    }
+}
+
+/// Whether a publication has the number.
+fn is_among(publications: &[Publication], number: u64) -> bool
+    ensures { result ≡ is_open number publications.now }
+{
+    for publication in publications {
+        if publication.number() == number {
+            return true;
+        }
+    }
+    false
+}
+
+/// Takes the copy from what each publication waits for.
+fn release_all(publications: &mut Vec<Publication>, copy: u64)
+    ensures { publications.new.items ≡ released copy publications.old.items }
+{
+    for publication in publications.iter_mut() {
+        publication.release(copy);
+    }
+}
+
+/// Removes the publication with the number.
+fn remove(publications: &mut Vec<Publication>, number: u64)
+    ensures { publications.new.items ≡ without number publications.old.items }
+{
+    publications.retain(|publication| publication.number() != number);
+}
+
+#[cfg(test)]
+mod tests {
+    use super::*;
+    use std::test::Fail;
+
+    /// The copy that a shovel made is stored by the flush, and then its publication is confirmed.
+    #[test]
+    fn one_shovel_one_message(rt: HostRuntime) -> Result<(), Fail> {
+        let mut ledger = Ledger::new(rt.alloc());
+        ledger.open(1, &[])?;
+        assert_eq!(rt; ledger.next_ready(), Some(1));
+        assert!(rt; ledger.answered(1));
+        ledger.open(2, &[2])?;
+        assert_eq!(rt; ledger.next_ready(), None);
+        ledger.stored(2);
+        assert_eq!(rt; ledger.next_ready(), Some(2));
+        assert!(rt; ledger.answered(2));
+        assert!(rt; !ledger.answered(2));
+        Ok(())
+    }
+
+    /// A publication into two queues waits for each copy; one was stored, and one was acknowledged before.
+    #[test]
+    fn stored_or_released(rt: HostRuntime) -> Result<(), Fail> {
+        let mut ledger = Ledger::new(rt.alloc());
+        ledger.open(1, &[1, 2])?;
+        ledger.left(2);
+        assert_eq!(rt; ledger.next_ready(), None);
+        ledger.stored(1);
+        assert_eq!(rt; ledger.next_ready(), Some(1));
+        Ok(())
+    }
+}

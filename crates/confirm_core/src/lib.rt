@@ -1,0 +1,7 @@
+//! What the publisher confirms of a broker wait for: each open publication, with the copies that are not stored yet.
+#![tactic(auto)]
+
+mod ledger;
+mod publication;
+
+pub use ledger::Ledger;

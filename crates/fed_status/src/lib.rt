@@ -1,0 +1,6 @@
+//! The listing: what `fedrun` prints of the state that a journal reached.
+#![tactic(auto)]
+
+mod link_line;
+pub mod listing;
+mod queue_line;

@@ -1,0 +1,149 @@
+//! The listing of a journal.
+ghost use Rattle.std.specs.Prelude.{◌≡◌, ◌++◌, All, IfOk, OnOk, flat_map};
+ghost use Rattle.std.specs.Option.{option_to_list};
+ghost use Rattle.fed_journal.specs.Copies.{IsNumbered};
+ghost use Rattle.fed_status.specs.Links.{link_line};
+ghost use Rattle.fed_status.specs.Listing.{listing};
+ghost use Rattle.fed_status.specs.Queues.{place_begun, places_of, queue_lines};
+
+use crate::link_line::push_link_line;
+use crate::queue_line::push_queue_lines;
+use fed_journal::entry::Entry;
+use fed_journal::link::LinkSpec;
+use fed_journal::page::Page;
+use fed_journal::place::Place;
+use fed_journal::text::Text;
+use journal_scan::links::links_of;
+use std::alloc::{AllocError, Global};
+
+/// Appends the queue lines of the place that the entry begins, if it begins one.
+fn push_place_begun(
+    alloc: Global,
+    journal: &[Entry],
+    entry: &Entry,
+    page: &mut Page,
+) -> Result<(), AllocError>
+    requires { All IsNumbered journal.now }
+    ensures { OnOk result (page.new ≡ page.old ++ flat_map (queue_lines journal.now) (option_to_list (place_begun entry.now))) }
+{
+    let Entry::Begun { broker, .. } = entry else {
+        return Ok(());
+    };
+    let place = Place {
+        broker: broker.clone()?,
+        vhost: Text::from_str(alloc, "/")?,
+    };
+    push_queue_lines(alloc, journal, &place, page)
+}
+
+/// Appends the queue lines of every place.
+#[tactic(auto, unfolding(crate::specs::Queues::places_of))]
+fn push_places(alloc: Global, journal: &[Entry], page: &mut Page) -> Result<(), AllocError>
+    requires { All IsNumbered journal.now }
+    ensures { OnOk result (page.new ≡ page.old ++ flat_map (queue_lines journal.now) (places_of journal.now)) }
+{
+    for entry in journal {
+        push_place_begun(alloc, journal, entry, page)?;
+    }
+    Ok(())
+}
+
+/// Appends the lines of these links.
+fn push_links(
+    alloc: Global,
+    journal: &[Entry],
+    links: &[LinkSpec],
+    page: &mut Page,
+) -> Result<(), AllocError>
+    ensures { OnOk result (page.new ≡ page.old ++ flat_map (link_line journal.now) links.now) }
+{
+    for spec in links {
+        push_link_line(alloc, journal, spec, page)?;
+    }
+    Ok(())
+}
+
+/// Appends the listing of the journal: its queues and links. After an `Err`, want of memory, the
+/// page may hold a part of it.
+#[tactic(auto, unfolding(crate::specs::Listing::listing))]
+pub fn push_listing(alloc: Global, journal: &[Entry], page: &mut Page) -> Result<(), AllocError>
+    requires { All IsNumbered journal.now }
+    ensures { OnOk result (page.new ≡ page.old ++ listing journal.now) }
+{
+    let links = links_of(alloc, journal)?;
+    push_places(alloc, journal, page)?;
+    push_links(alloc, journal, links.as_slice(), page)
+}
+
+#[cfg(test)]
+mod tests {
+    use super::*;
+    use fed_journal::event::Shovel;
+    use fed_journal::link::AckMode;
+    use fed_journal::place::QueueOptions;
+    use std::test::Fail;
+
+    fn text(alloc: Global, text: &str) -> Result<Text, AllocError> {
+        Text::from_str(alloc, text)
+    }
+
+    fn place(alloc: Global) -> Result<Place, AllocError> {
+        Ok(Place {
+            broker: text(alloc, "a")?,
+            vhost: text(alloc, "/")?,
+        })
+    }
+
+    fn begun(alloc: Global) -> Result<Entry, AllocError>
+        ensures { IfOk result (λ entry. IsNumbered entry) }
+    {
+        Ok(Entry::Begun {
+            broker: text(alloc, "a")?,
+            cluster: text(alloc, "a")?,
+            kept: text(alloc, "{}")?,
+        })
+    }
+
+    fn queue_made(alloc: Global) -> Result<Entry, AllocError>
+        ensures { IfOk result (λ entry. IsNumbered entry) }
+    {
+        Ok(Entry::MadeQueue {
+            place: place(alloc)?,
+            queue: text(alloc, "q")?,
+            options: QueueOptions {
+                durable: true,
+                exclusive: false,
+                auto_delete: false,
+            },
+        })
+    }
+
+    fn shovel_set(alloc: Global) -> Result<Entry, AllocError>
+        ensures { IfOk result (λ entry. IsNumbered entry) }
+    {
+        Ok(Entry::ShovelSet {
+            place: place(alloc)?,
+            name: text(alloc, "s")?,
+            shovel: Shovel {
+                source: text(alloc, "a")?,
+                source_queue: text(alloc, "q")?,
+                target: text(alloc, "a")?,
+                target_queue: text(alloc, "q")?,
+                mode: AckMode::OnConfirm,
+            },
+        })
+    }
+
+    #[test]
+    fn a_queue_and_a_link(rt: HostRuntime) -> Result<(), Fail> {
+        let alloc = rt.alloc();
+        let journal = [begun(alloc)?, queue_made(alloc)?, shovel_set(alloc)?];
+        let mut page = Page::new(alloc);
+        push_listing(alloc, journal.as_slice(), &mut page)?;
+        assert_eq!(rt;
+            page.as_str(),
+            "queue a q 0 0\nlink s/a/s gone 0 0 0 0 0 0 0\n"
+        );
+        Ok(())
+    }
+}

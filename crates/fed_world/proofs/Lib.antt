@@ -1,0 +1,2 @@
+pub mod RowFits
+pub mod SoundLemmas

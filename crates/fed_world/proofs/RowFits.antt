@@ -1,0 +1,172 @@
+-- Each row brings entries that fit.
+use Rattle.std.proofs.Common.{◌≡◌, ℕ, ◌+◌, ◌≤◌, ◌<◌, ◌*◌, ◌^◌, List, [], ◌∷◌, ◌++◌, length, Bool, true, false, Option, Some, None, arith, refl, sym, subst, append_assoc, length-append}
+use Rattle.std.specs.Prelude.{Ok, Err, not, ◌&&◌, if◌then◌else◌, find, slice_get}
+use Rattle.fed_journal.specs.declared.place.Place.{Place}
+use Rattle.fed_journal.specs.declared.message.Message.{Message}
+use Rattle.fed_journal.specs.declared.event.Event.{Event}
+use Rattle.fed_journal.specs.declared.event.Event.TheVariants.{DeclareQueue, Publish, Flush, SetShovel, Open, Take, Send, Accept, Confirm, Note, Settle, Show}
+use Rattle.fed_journal.specs.declared.event.Shovel.{Shovel}
+use Rattle.fed_journal.specs.declared.link.LinkSpec.{LinkSpec}
+use Rattle.fed_journal.specs.declared.link.StartState.{StartState}
+use Rattle.fed_journal.specs.declared.link.StartState.TheVariants.{Start, NoBroker, NameTooLong}
+use Rattle.fed_journal.specs.declared.entry.Publisher.{Publisher}
+use Rattle.fed_journal.specs.declared.entry.Publisher.TheVariants.{Client, Link}
+use Rattle.fed_journal.specs.declared.entry.Publication.{Publication}
+use Rattle.fed_journal.specs.declared.entry.Entry.{Entry}
+use Rattle.fed_journal.specs.declared.entry.Entry.TheVariants.{MadeQueue, Flushed, ShovelSet, Took, Sent, Confirmed, Noted, Settled, Opened}
+use Rattle.fed_journal.specs.Configuration.{is_place, is_broker}
+use Rattle.fed_journal.specs.Names.{is_reserved}
+use Rattle.fed_journal.specs.Copies.{copy_count, publication_of, is_secured}
+use Rattle.fed_journal.specs.Links.{link_of, is_shovel_set}
+use Rattle.fed_journal.specs.Phases.{phase, session, is_open}
+use Rattle.fed_journal.specs.Holds.{ready_count}
+use Rattle.fed_journal.specs.Outgoing.{outgoing}
+use Rattle.fed_journal.specs.Flight.{flight_took, flight_sent, flight_published, flight_confirmed, flight_noted}
+use Rattle.fed_world.specs.declared.reason.Reason.TheVariants as why
+use Rattle.fed_world.specs.Row.{Row, at_place, with_link, with_spec, while_open, one_or_empty, oldest}
+use Rattle.fed_world.specs.Declare.{declare_row, stands, is_refused, lasting}
+use Rattle.fed_world.specs.Publish.{publish_row, published, routes, first_copy, message}
+use Rattle.fed_world.specs.Flush.{flush_row}
+use Rattle.fed_world.specs.SetShovel.{set_shovel_row}
+use Rattle.fed_world.specs.Open.{open_row, opened, open_if_startable, made_if, is_target_missing}
+use Rattle.fed_world.specs.Take.{take_row, first_ready_at}
+use Rattle.fed_world.specs.Send.{send_row}
+use Rattle.fed_world.specs.Accept.{accept_row, accept_first, accepted}
+use Rattle.fed_world.specs.Confirm.{confirm_row, confirm_first, confirmed}
+use Rattle.fed_world.specs.Note.{note_row}
+use Rattle.fed_world.specs.Settle.{settle_row}
+use Rattle.fed_world.specs.Step.{next}
+use Rattle.fed_world.specs.Fits.{FitsEntry, EachFits, RowFits}
+
+pub at_place-fits : (J : List Entry) (p : Place) (row : Row) → RowFits J row → RowFits J (at_place J p row)
+at_place-fits J p row h = elim (is_place J p) as (λ b. RowFits J (if b then row else Err why.NoPlace)) [ true ↦ h | false ↦ tt ]
+
+with_spec-fits : (J : List Entry) (row : LinkSpec → Row) (spec : Option LinkSpec) → ((s : LinkSpec) → RowFits J (row s)) → RowFits J (with_spec row spec)
+with_spec-fits J row None h = tt
+with_spec-fits J row (Some s) h = h s
+
+pub with_link-fits : (J : List Entry) (l : List ℕ) (row : LinkSpec → Row) → ((s : LinkSpec) → RowFits J (row s)) → RowFits J (with_link J l row)
+with_link-fits J l row h = with_spec-fits J row (link_of J l) h
+
+pub while_open-fits : (J : List Entry) (l : List ℕ) (row : Row) → RowFits J row → RowFits J (while_open J l row)
+while_open-fits J l row h = elim (is_open (phase J l)) as (λ b. RowFits J (if b then row else Err why.NotOpen)) [ true ↦ h | false ↦ tt ]
+
+pub one_or_empty-fits : (J : List Entry) (entry : ℕ → Entry) (n : Option ℕ) → ((m : ℕ) → FitsEntry J (entry m)) → RowFits J (one_or_empty entry n)
+one_or_empty-fits J entry None h = tt
+one_or_empty-fits J entry (Some m) h = (h m, tt)
+
+flush_row-fits : (J : List Entry) (b : List ℕ) → RowFits J (flush_row J b)
+unfolding flush_row
+flush_row-fits J b = elim (is_broker J b) as (λ v. RowFits J (if v then Ok (Flushed b ∷ []) else Err why.NoPlace)) [ true ↦ (tt, tt) | false ↦ tt ]
+
+set_shovel_row-fits : (J : List Entry) (p : Place) (name : List ℕ) (shovel : Shovel) → RowFits J (set_shovel_row J p name shovel)
+unfolding set_shovel_row
+set_shovel_row-fits J p name shovel =
+    at_place-fits J p _
+    (elim (is_shovel_set J p name) as (λ v. RowFits J (if v then Ok [] else Ok (ShovelSet p name shovel ∷ []))) [ true ↦ tt | false ↦ (tt, tt) ])
+
+declare_row-fits : (J : List Entry) (p : Place) (q : List ℕ) → RowFits J (declare_row J p q)
+unfolding declare_row
+declare_row-fits J p q =
+    at_place-fits J p _
+    (elim (is_refused J p q) as (λ v. RowFits J (if v then Err (why.Refused 403) else if stands J p q then Ok [] else Ok (MadeQueue p q lasting ∷ []))) [
+      | true ↦ tt
+      | false ↦ elim (stands J p q) as (λ v. RowFits J (if v then Ok [] else Ok (MadeQueue p q lasting ∷ []))) [ true ↦ tt | false ↦ (tt, tt) ]
+    ])
+
+-- the copies of a message that the default exchange routes have numbers that fit
+routes-fit : (J : List Entry) (queues : List (List ℕ)) → length queues ≤ 1 → copy_count J < 2 ^ 63 → first_copy J queues + length queues < 2 ^ 64
+routes-fit J [] few small = omega arith
+routes-fit J (q ∷ qs) few small = omega arith
+
+routes-few : (J : List Entry) (p : Place) (m : Message) → length (routes J p m) ≤ 1
+routes-few J p m =
+    elim (not (is_reserved m.key) && stands J p m.key) as (λ v. length (if v then m.key ∷ [] else []) ≤ 1) [ true ↦ omega arith | false ↦ omega arith ]
+
+published-fits : (J : List Entry) (p : Place) (by : Publisher) (m : Message) → copy_count J < 2 ^ 63 → FitsEntry J (published J p by m)
+published-fits J p by m small = routes-fit J (routes J p m) (routes-few J p m) small
+
+publish_row-fits : (J : List Entry) (p : Place) (client : ℕ) (key body : List ℕ) (persistent : Bool) → copy_count J < 2 ^ 63 → RowFits J (publish_row J p client key body persistent)
+unfolding publish_row
+publish_row-fits J p client key body persistent small =
+    at_place-fits J p _ (published-fits J p (Client client 1) (message key body persistent) small, tt)
+
+accepted-fits : (J : List Entry) (spec : LinkSpec) (c : ℕ) (target : Option Place) (x : Option Publication) → copy_count J < 2 ^ 63 → RowFits J (accepted J spec c target x)
+accepted-fits J spec c (Some target) (Some x) small = (published-fits J target (Link spec.name (session J spec.name) c) (outgoing spec x.message) small, tt)
+accepted-fits J spec c (Some target) None small = tt
+accepted-fits J spec c None x small = tt
+
+accept_first-fits : (J : List Entry) (spec : LinkSpec) (c : Option ℕ) → copy_count J < 2 ^ 63 → RowFits J (accept_first J spec c)
+accept_first-fits J spec None small = tt
+accept_first-fits J spec (Some c) small = accepted-fits J spec c spec.target (publication_of c J) small
+
+accept_row-fits : (J : List Entry) (l : List ℕ) → copy_count J < 2 ^ 63 → RowFits J (accept_row J l)
+unfolding accept_row
+accept_row-fits J l small =
+    with_link-fits J l _ (λ spec. while_open-fits J l _ (accept_first-fits J spec (oldest (flight_sent J l (session J l))) small))
+
+confirmed-fits : (J : List Entry) (l : List ℕ) (s : ℕ) (p : Option ℕ) → RowFits J (confirmed l s p)
+confirmed-fits J l s None = tt
+confirmed-fits J l s (Some p) = (tt, tt)
+
+confirm_first-fits : (J : List Entry) (l : List ℕ) (s : ℕ) (ps : List ℕ) → RowFits J (confirm_first J l s ps)
+confirm_first-fits J l s [] = tt
+confirm_first-fits J l s (p ∷ ps) = confirmed-fits J l s (find (is_secured J) (p ∷ ps))
+
+confirm_row-fits : (J : List Entry) (l : List ℕ) → RowFits J (confirm_row J l)
+unfolding confirm_row
+confirm_row-fits J l = with_link-fits J l _ (λ spec. while_open-fits J l _ (confirm_first-fits J l (session J l) (flight_published J l (session J l))))
+
+take_row-fits : (J : List Entry) (l : List ℕ) → RowFits J (take_row J l)
+unfolding take_row
+take_row-fits J l = with_link-fits J l _ (λ spec. while_open-fits J l _ (one_or_empty-fits J _ (first_ready_at J spec.source spec.source_queue) (λ m. tt)))
+
+send_row-fits : (J : List Entry) (l : List ℕ) → RowFits J (send_row J l)
+unfolding send_row
+send_row-fits J l = with_link-fits J l _ (λ spec. while_open-fits J l _ (one_or_empty-fits J _ (oldest (flight_took J l (session J l))) (λ m. tt)))
+
+note_row-fits : (J : List Entry) (l : List ℕ) → RowFits J (note_row J l)
+unfolding note_row
+note_row-fits J l = with_link-fits J l _ (λ spec. while_open-fits J l _ (one_or_empty-fits J _ (oldest (flight_confirmed J l (session J l))) (λ m. tt)))
+
+settle_row-fits : (J : List Entry) (l : List ℕ) → RowFits J (settle_row J l)
+unfolding settle_row
+settle_row-fits J l = with_link-fits J l _ (λ spec. while_open-fits J l _ (one_or_empty-fits J _ (oldest (flight_noted J l (session J l))) (λ m. tt)))
+
+-- a declaration fits, and so does what follows it
+made_if-fits : (J : List Entry) (missing : Bool) (p : Place) (q : List ℕ) (es : List Entry) → ((K : List Entry) → length J ≤ length K → EachFits K es) → EachFits J (made_if missing p q ++ es)
+made_if-fits J true p q es h = (tt, h (J ++ MadeQueue p q lasting ∷ []) (simp length-append (omega arith)))
+made_if-fits J false p q es h = h J (omega arith)
+
+opened-fits : (J : List Entry) (spec : LinkSpec) (source target : Option Place) → session J spec.name ≤ length J → RowFits J (opened J spec source target)
+opened-fits J spec (Some source) (Some target) h =
+    subst (EachFits J) (sym (append_assoc (made_if (not (stands J source spec.source_queue)) source spec.source_queue) (made_if (is_target_missing J spec source target) target spec.target_queue) (Opened spec.name (session J spec.name + 1) (ready_count J source spec.source_queue) ∷ [])))
+    (made_if-fits J (not (stands J source spec.source_queue)) source spec.source_queue _
+    (λ K k. made_if-fits K (is_target_missing J spec source target) target spec.target_queue _ (λ L l. (omega arith, tt))))
+opened-fits J spec (Some source) None h = tt
+opened-fits J spec None target h = tt
+
+open_if_startable-fits : (J : List Entry) (spec : LinkSpec) (state : StartState) → session J spec.name ≤ length J → RowFits J (open_if_startable J spec state)
+open_if_startable-fits J spec NoBroker h = tt
+open_if_startable-fits J spec NameTooLong h = tt
+open_if_startable-fits J spec Start h =
+    elim (is_open (phase J spec.name)) as (λ v. RowFits J (if v then Err why.Live else opened J spec spec.source spec.target)) [ true ↦ tt | false ↦ opened-fits J spec spec.source spec.target h ]
+
+open_row-fits : (J : List Entry) (l : List ℕ) → ((k : List ℕ) → session J k ≤ length J) → RowFits J (open_row J l)
+unfolding open_row
+open_row-fits J l h = with_link-fits J l _ (λ spec. open_if_startable-fits J spec spec.start (h spec.name))
+
+-- whatever the event, its entries fit
+pub next-fits : (J : List Entry) (e : Event) → copy_count J < 2 ^ 63 → ((k : List ℕ) → session J k ≤ length J) → RowFits J (next J e)
+next-fits J (DeclareQueue p c q) small h = declare_row-fits J p q
+next-fits J (Publish p c key body persistent) small h = publish_row-fits J p c key body persistent small
+next-fits J (Flush b) small h = flush_row-fits J b
+next-fits J (SetShovel p name shovel) small h = set_shovel_row-fits J p name shovel
+next-fits J (Open l) small h = open_row-fits J l h
+next-fits J (Take l) small h = take_row-fits J l
+next-fits J (Send l) small h = send_row-fits J l
+next-fits J (Accept l) small h = accept_row-fits J l small
+next-fits J (Confirm l) small h = confirm_row-fits J l
+next-fits J (Note l) small h = note_row-fits J l
+next-fits J (Settle l) small h = settle_row-fits J l
+next-fits J Show small h = tt

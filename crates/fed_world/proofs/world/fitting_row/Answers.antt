@@ -1,0 +1,11 @@
+use Rattle.std.proofs.Common.{◌<◌, ◌^◌}
+use Rattle.fed_journal.specs.Copies.{copy_count}
+use Rattle.fed_world.proofs.RowFits.{next-fits}
+use Rattle.fed_world.proofs.SoundLemmas.{copies-small}
+use Rattle.fed_world.proofs.world.fitting_row.Goals as goal
+
+-- whatever the event, its entries fit
+pub returns-clause-fits : goal.returns-clause-fits
+returns-clause-fits c =
+    let small : copy_count c.args.journal.now.entries < 2 ^ 63 = copies-small c.entries-entries.ensures.same c.entries-entries.ensures.within c.entries-entries.ensures.copies in
+    rw c.in_ok-row.ensures (next-fits _ c.args.event.now small c.requires.sessions)

@@ -1,0 +1,20 @@
+-- What each entry of a row keeps, so that every journal of a run is sound.
+use Rattle.std.specs.Prelude.{ℕ, ◌+◌, ◌≤◌, ◌<◌, ◌^◌, List, [], ◌∷◌, ◌++◌, length, Ok, Err}
+use Rattle.fed_journal.specs.declared.entry.Entry.{Entry}
+use Rattle.fed_journal.specs.declared.entry.Entry.TheVariants.{Published, Opened}
+use Rattle.fed_world.specs.Row.{Row}
+
+-- the numbers that the entry brings fit their types
+abbrev pub FitsEntry : List Entry → Entry → Type 0
+FitsEntry J (Published x) = x.first + length x.queues < 2 ^ 64
+FitsEntry J (Opened l s r) = s ≤ length J + 1
+FitsEntry J _ = Unit {0}
+
+-- one entry after another
+abbrev pub EachFits : List Entry → List Entry → Type 0
+EachFits J [] = Unit {0}
+EachFits J (e ∷ es) = FitsEntry J e × EachFits (J ++ e ∷ []) es
+
+abbrev pub RowFits : List Entry → Row → Type 0
+RowFits J (Ok entries) = EachFits J entries
+RowFits J (Err reason) = Unit {0}

@@ -1,0 +1,198 @@
+//! The state of a run: its journal.
+ghost use Rattle.std.specs.Prelude.{◌≡◌, ◌+◌, ◌<◌, ◌≤◌, ◌++◌, ◌*◌, ◌^◌, ◌≢◌, Ok, Err, IfOk, OnOk, OnErr, length, vec_len};
+ghost use Rattle.fed_world.specs.RowOf.{row_of};
+ghost use Rattle.fed_world.specs.Step.{next, after, outcome_of, IsOver};
+ghost use Rattle.fed_world.specs.Run.{begin, begun};
+ghost use Rattle.fed_world.specs.Sound.{IsSound};
+ghost use Rattle.fed_world.specs.Fits.{EachFits, RowFits};
+
+use crate::reason::{Outcome, StepFault};
+use crate::row::{Row, nothing};
+use crate::rows::accept::accept_row;
+use crate::rows::confirm::confirm_row;
+use crate::rows::declare::declare_row;
+use crate::rows::flush::flush_row;
+use crate::rows::note::note_row;
+use crate::rows::open::open_row;
+use crate::rows::publish::publish_row;
+use crate::rows::send::send_row;
+use crate::rows::set_shovel::set_shovel_row;
+use crate::rows::settle::settle_row;
+use crate::rows::take::take_row;
+use fed_journal::entry::Entry;
+use fed_journal::event::Event;
+use fed_journal::journal::{Journal, JournalFault, MAX_ENTRIES};
+use fed_journal::text::Text;
+use std::alloc::{AllocError, Global};
+use std::marker::Model;
+
+/// A run so far, seen as the entries of its journal.
+#[derive(Drop)]
+pub struct World {
+    alloc: Global,
+    journal: Journal,
+}
+
+impl Model for World {
+    ghost use Rattle.std.specs.Prelude.{List};
+    ghost use Rattle.fed_journal.specs.declared.entry.Entry.{Entry};
+    ghost use Rattle.fed_world.specs.Sound.{IsSound};
+
+    ghost Value = { List Entry };
+
+    ghost view = { λ w. w.journal.entries };
+
+    ghost invariant = { λ w. IsSound w.journal.entries };
+}
+
+/// The row of an event: what it appends, or why it doesn't happen now.
+pub fn next(alloc: Global, journal: &Journal, event: &Event) -> Result<Row, AllocError>
+    requires { IsSound journal.now.entries }
+    ensures { IfOk result (λ row. row_of row ≡ next journal.now.entries event.now) }
+{
+    let entries = journal.entries();
+    let numbers = journal.numbers();
+    match event {
+        Event::DeclareQueue { place, queue, .. } => declare_row(alloc, entries, place, queue),
+        Event::Publish {
+            place,
+            client,
+            key,
+            body,
+            persistent,
+        } => publish_row(
+            alloc,
+            entries,
+            place,
+            *client,
+            key,
+            body,
+            *persistent,
+            numbers,
+        ),
+        Event::Flush { broker } => flush_row(alloc, entries, broker),
+        Event::SetShovel {
+            place,
+            name,
+            shovel,
+        } => set_shovel_row(alloc, entries, place, name, shovel),
+        Event::Open { link } => open_row(alloc, entries, link),
+        Event::Take { link } => take_row(alloc, entries, link),
+        Event::Send { link } => send_row(alloc, entries, link),
+        Event::Accept { link } => accept_row(alloc, entries, link, numbers),
+        Event::Confirm { link } => confirm_row(alloc, entries, link),
+        Event::Note { link } => note_row(alloc, entries, link),
+        Event::Settle { link } => settle_row(alloc, entries, link),
+        Event::Show => Ok(nothing(alloc)),
+    }
+}
+
+/// Appends the entries, all or none. Entries where the journal would pass its limit.
+fn append(journal: &mut Journal, entries: Vec<Entry>) -> Result<(), JournalFault>
+    ensures ok { OnOk result (journal.new.entries ≡ journal.old.entries ++ entries.items) }
+    ensures err { OnErr result (journal.new.entries ≡ journal.old.entries) }
+    ensures full { result ≡ Err JournalFault.Entries → MAX_ENTRIES < length journal.old.entries + length entries.items }
+    ensures within { OnOk result (length journal.old.entries + length entries.items ≤ MAX_ENTRIES) }
+    ensures memory { result ≡ Err JournalFault.Memory → length journal.old.entries + length entries.items ≤ MAX_ENTRIES }
+{
+    journal.reserve(entries.len())?;
+    for entry in entries {
+        journal.push(entry);
+    }
+    Ok(())
+}
+
+/// The row of an event, of which each entry fits.
+fn fitting_row(alloc: Global, journal: &Journal, event: &Event) -> Result<Row, AllocError>
+    requires { IsSound journal.now.entries }
+    ensures row { IfOk result (λ row. row_of row ≡ next journal.now.entries event.now) }
+    ensures fits { IfOk result (λ row. RowFits journal.now.entries (row_of row)) }
+{
+    let _entries = journal.entries();
+    let row = next(alloc, journal, event)?;
+    Ok(row)
+}
+
+/// Appends entries that fit, and answers how many.
+fn extend(journal: &mut Journal, entries: Vec<Entry>) -> Result<usize, JournalFault>
+    requires sound { IsSound journal.old.entries }
+    requires fits { EachFits journal.old.entries entries.items }
+    ensures ok { OnOk result (journal.new.entries ≡ journal.old.entries ++ entries.items) }
+    ensures count { IfOk result (λ count. count ≡ length entries.items) }
+    ensures sound { IsSound journal.new.entries }
+    ensures err { OnErr result (journal.new.entries ≡ journal.old.entries) }
+    ensures full { result ≡ Err JournalFault.Entries → MAX_ENTRIES < length journal.old.entries + length entries.items }
+    ensures within { OnOk result (length journal.old.entries + length entries.items ≤ MAX_ENTRIES) }
+{
+    let count = entries.len();
+    match append(journal, entries) {
+        Ok(()) => Ok(count),
+        Err(fault) => Err(fault),
+    }
+}
+
+/// The entry of a bare broker.
+fn begun(alloc: Global, broker: &Text) -> Result<Entry, AllocError>
+    ensures { IfOk result (λ entry. entry ≡ begun broker.now) }
+{
+    Ok(Entry::Begun {
+        broker: broker.clone()?,
+        cluster: broker.clone()?,
+        kept: Text::from_str(alloc, "{}")?,
+    })
+}
+
+/// The entries of bare brokers.
+fn begin_entries(alloc: Global, brokers: &[Text]) -> Result<Vec<Entry>, AllocError>
+    ensures { IfOk result (λ entries. entries.items ≡ begin brokers.now) }
+{
+    let mut entries = Vec::new(alloc);
+    for broker in brokers {
+        entries.push(begun(alloc, broker)?)?;
+    }
+    Ok(entries)
+}
+
+impl World {
+    /// The world before the first event of a run of these bare brokers. Only memory can be wanting.
+    pub fn begin(alloc: Global, brokers: &[Text]) -> Result<World, AllocError>
+        requires { length brokers.now ≤ 64 }
+        ensures { IfOk result (λ world. world ≡ begin brokers.now) }
+    {
+        let entries = begin_entries(alloc, brokers)?;
+        let mut journal = Journal::new(alloc);
+        match extend(&mut journal, entries) {
+            Ok(_) => Ok(World { alloc, journal }),
+            Err(_) => Err(AllocError),
+        }
+    }
+
+    /// Does one event, as its rule says: either its entries are appended, or nothing changes. Entries where the
+    /// journal would pass its limit.
+    pub fn step(&mut self, event: &Event) -> Result<Outcome, StepFault>
+        ensures outcome { IfOk result (λ outcome. outcome ≡ outcome_of (next self.old event.now)) }
+        ensures journal { OnOk result (self.new ≡ after self.old (next self.old event.now)) }
+        ensures err { OnErr result (self.new ≡ self.old) }
+
+        ensures full { result ≡ Err StepFault.Entries → IsOver self.old (next self.old event.now) }
+        ensures within { OnOk result (IsOver self.old (next self.old event.now) → ⊥) }
+    {
+        match fitting_row(self.alloc, &self.journal, event) {
+            Err(_) => Err(StepFault::Memory),
+            Ok(Err(reason)) => Ok(Outcome::NotNow(reason)),
+            Ok(Ok(entries)) => match extend(&mut self.journal, entries) {
+                Ok(count) => Ok(Outcome::Done(count)),
+                Err(JournalFault::Entries) => Err(StepFault::Entries),
+                Err(JournalFault::Memory) => Err(StepFault::Memory),
+            },
+        }
+    }
+
+    /// The journal so far.
+    pub fn journal(&self) -> &Journal
+        ensures entries { result.now.entries ≡ self.now }
+        ensures sound { IsSound self.now }
+    {
+        &self.journal
+    }
+}

@@ -1,0 +1,4 @@
+pub mod BestLemmas
+pub mod RankLemmas
+pub mod FoundLemmas
+pub mod ChoiceLemmas

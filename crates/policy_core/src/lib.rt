@@ -1,0 +1,10 @@
+//! Policies as RabbitMQ has them: patterns, what they apply to, and which of several applies.
+#![tactic(auto)]
+
+mod pattern;
+mod policy;
+#[cfg(test)]
+mod tests;
+
+pub use pattern::{Pattern, PatternFault};
+pub use policy::{Apply, ObjectKind, PolicyText, choose};

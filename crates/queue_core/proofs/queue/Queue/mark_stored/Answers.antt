@@ -1,0 +1,6 @@
+use Rattle.std.proofs.Common.{refl}
+use Rattle.queue_core.proofs.RowLemmas.{Ascends-map}
+use Rattle.queue_core.proofs.queue.Queue.mark_stored.Goals as goal
+
+pub invariant_of-self : goal.invariant_of-self
+invariant_of-self c = rw c.store_all.ensures (Ascends-map _ (λ _. refl) _ c.self.invariant)

@@ -1,0 +1,5 @@
+use Rattle.queue_core.proofs.RowLemmas.{Ascends-filter}
+use Rattle.queue_core.proofs.queue.Queue.purge.Goals as goal
+
+pub invariant_of-self : goal.invariant_of-self
+invariant_of-self c = rw c.remove_ready.ensures (Ascends-filter _ _ c.self.invariant)
