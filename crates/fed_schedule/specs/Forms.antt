@@ -1,0 +1,117 @@
+-- The forms of lines, by their first word.
+use Rattle.std.specs.Prelude.{ℕ, List, Bool, true, false, ◌&&◌, ◌||◌, not, if◌then◌else◌, ◌==◌, nat_le, nat_lt, nat_eq, length, take, drop, Option, Some, None, codes}
+use Rattle.std.specs.List.{list_any, list_all, starts_with}
+use Rattle.fed_journal.specs.declared.event.Event.{Event}
+use Rattle.fed_journal.specs.declared.event.Event.TheVariants.{SetShovel}
+use Rattle.fed_journal.specs.declared.place.Place.{Place}
+use Rattle.fed_journal.specs.Names.{same_text, same_place}
+use Rattle.fed_schedule.specs.declared.keyword.Keyword.{Keyword}
+use Rattle.fed_schedule.specs.declared.keyword.Keyword.TheVariants.{Broker, Declare, Publish, Flush, Shovel, Link, Show}
+use Rattle.fed_schedule.specs.declared.keyword.Action.{Action}
+use Rattle.fed_schedule.specs.declared.keyword.Action.TheVariants.{Open, Take, Send, Accept, Confirm, Note, Settle}
+use Rattle.fed_schedule.specs.Words.{word_at, is_text, text_of}
+use Rattle.fed_schedule.specs.Fields.{place_of}
+
+-- what a link does
+unfoldable pub action_of : List ℕ → Option Action
+action_of w =
+    if same_text w (codes "open") then Some Open else
+    if same_text w (codes "take") then Some Take else
+    if same_text w (codes "send") then Some Send else
+    if same_text w (codes "accept") then Some Accept else
+    if same_text w (codes "confirm") then Some Confirm else
+    if same_text w (codes "note") then Some Note else
+    if same_text w (codes "settle") then Some Settle else None
+
+abbrev pub link_keyword : Option Action → Option Keyword
+link_keyword None = None
+link_keyword (Some action) = Some (Link action)
+
+-- the form that the first word names
+unfoldable pub keyword_of : List ℕ → Option Keyword
+keyword_of w =
+    if same_text w (codes "broker") then Some Broker else
+    if same_text w (codes "declare") then Some Declare else
+    if same_text w (codes "publish") then Some Publish else
+    if same_text w (codes "flush") then Some Flush else
+    if same_text w (codes "shovel") then Some Shovel else
+    if same_text w (codes "show") then Some Show else link_keyword (action_of w)
+
+-- all words but the body of a message are texts
+unfoldable pub are_texts : List (List ℕ) → Bool
+are_texts ws =
+    if same_text (word_at ws 0) (codes "publish") then list_all is_text (take 5 ws) && list_all is_text (drop 6 ws)
+    else list_all is_text ws
+
+-- the words after an option, if it stands first
+unfoldable pub without : List ℕ → List (List ℕ) → List (List ℕ)
+without option ws = if same_text (word_at ws 0) option then drop 1 ws else ws
+
+-- nothing, or some of a queue's options in their order (AMQP 0-9-1, queue.declare)
+unfoldable pub are_queue_options : List (List ℕ) → Bool
+are_queue_options ws = length (without (codes "auto-delete") (without (codes "exclusive") (without (codes "durable") ws))) == 0
+
+-- the one option
+abbrev pub is_alone : List ℕ → List (List ℕ) → Bool
+is_alone option ws = length ws == 1 && same_text (word_at ws 0) option
+
+-- a declaration of an exchange, or of a queue that isn't just durable
+unfoldable pub is_unbuilt_declare : List (List ℕ) → Bool
+is_unbuilt_declare ws =
+    same_text (word_at ws 3) (codes "exchange")
+    || (same_text (word_at ws 3) (codes "queue") && nat_le 5 (length ws) && are_queue_options (drop 5 ws) && not (is_alone (codes "durable") (drop 5 ws)))
+
+-- an exchange that isn't the default one
+abbrev pub names_exchange : List ℕ → Bool
+names_exchange w = not (length w == 0) && not (same_text w (codes "-"))
+
+abbrev pub is_header : List ℕ → Bool
+is_header w = starts_with nat_eq w (codes "header=")
+
+-- a publication to an exchange that has a name, or with header fields
+unfoldable pub is_unbuilt_publish : List (List ℕ) → Bool
+is_unbuilt_publish ws = names_exchange (word_at ws 3) || list_any is_header (drop 6 ws)
+
+-- the event sets the shovel of this place and name
+abbrev pub sets_shovel : Place → List ℕ → Event → Bool
+sets_shovel p n (SetShovel place name shovel) = same_place place p && same_text name n
+sets_shovel p n _ = false
+
+abbrev pub line_sets_shovel : Place → List ℕ → (ℕ × Event) → Bool
+line_sets_shovel p n e = sets_shovel p n e.1
+
+-- a shovel with another acknowledgement mode (RabbitMQ, shovels: `ack-mode`), or one that is set again
+unfoldable pub is_unbuilt_shovel : List (ℕ × Event) → List (List ℕ) → Bool
+is_unbuilt_shovel es ws =
+    same_text (word_at ws 7) (codes "on-publish") || same_text (word_at ws 7) (codes "no-ack")
+    || list_any (line_sets_shovel (place_of (word_at ws 1)) (text_of (word_at ws 2))) es
+
+-- a line whose form isn't built yet
+unfoldable pub is_unbuilt : List (ℕ × Event) → Keyword → List (List ℕ) → Bool
+is_unbuilt es Declare ws = is_unbuilt_declare ws
+is_unbuilt es Publish ws = is_unbuilt_publish ws
+is_unbuilt es Shovel ws = is_unbuilt_shovel es ws
+is_unbuilt es _ ws = false
+
+-- the words of a form, without its options
+abbrev pub word_count : Keyword → ℕ
+word_count Broker = 2
+word_count Declare = 5
+word_count Publish = 6
+word_count Flush = 2
+word_count Shovel = 8
+word_count Show = 1
+word_count (Link _) = 2
+
+abbrev pub takes_options : Keyword → Bool
+takes_options Declare = true
+takes_options Publish = true
+takes_options _ = false
+
+abbrev pub is_empty_word : List ℕ → Bool
+is_empty_word w = length w == 0
+
+-- words are missing, too many, or empty
+unfoldable pub is_miscounted : Keyword → List (List ℕ) → Bool
+is_miscounted k ws =
+    list_any is_empty_word ws || nat_lt (length ws) (word_count k) || (not (takes_options k) && nat_lt (word_count k) (length ws))

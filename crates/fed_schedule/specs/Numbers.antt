@@ -1,0 +1,25 @@
+-- Client numbers: the numbers of connections (AMQP 0-9-1, 4.9: the channel is 1).
+use Rattle.std.specs.Prelude.{ℕ, ◌+◌, ◌*◌, ◌-◌, List, Bool, ◌&&◌, not, if◌then◌else◌, ◌==◌, nat_le, nat_lt, fold, length, min, slice_index, Option, Some, None}
+use Rattle.std.specs.List.{list_all}
+
+abbrev pub is_digit : ℕ → Bool
+is_digit b = nat_le 48 b && nat_le b 57
+
+abbrev pub has_leading_zero : List ℕ → Bool
+has_leading_zero w = nat_lt 1 (length w) && slice_index w 0 == 48
+
+-- a decimal number is written without leading zeros
+unfoldable pub is_decimal : List ℕ → Bool
+is_decimal w = not (length w == 0) && not (has_leading_zero w) && list_all is_digit w
+
+-- one digit more, where a number over the most counts as the next one
+abbrev pub with_digit : ℕ → ℕ → ℕ → ℕ
+with_digit most n b = min (most + 1) (10 * n + (b - 48))
+
+-- the number that the digits write, or most + 1 if it is greater than the most
+unfoldable pub number_up_to : ℕ → List ℕ → ℕ
+number_up_to most digits = fold (with_digit most) 0 digits
+
+-- a client's number is 0 to 65,535
+unfoldable pub client_of : List ℕ → Option ℕ
+client_of w = if is_decimal w && nat_le (number_up_to 65535 w) 65535 then Some (number_up_to 65535 w) else None

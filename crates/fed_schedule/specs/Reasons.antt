@@ -1,0 +1,81 @@
+-- What makes a line's words no values of its form.
+use Rattle.std.specs.Prelude.{ℕ, List, Bool, false, ◌&&◌, ◌||◌, not, ◌==◌, nat_lt, length, drop, is_some, codes}
+use Rattle.std.specs.List.{list_any}
+use Rattle.fed_journal.specs.Names.{same_text, is_reserved}
+use Rattle.fed_schedule.specs.declared.keyword.Keyword.{Keyword}
+use Rattle.fed_schedule.specs.declared.keyword.Keyword.TheVariants.{Broker, Declare, Publish, Flush, Shovel, Link, Show}
+use Rattle.fed_schedule.specs.Words.{word_at, text_of, octets_of}
+use Rattle.fed_schedule.specs.Numbers.{client_of}
+use Rattle.fed_schedule.specs.Fields.{is_run_name, is_long, place_of, is_bad_place}
+use Rattle.fed_schedule.specs.Links.{is_bad_link}
+use Rattle.fed_schedule.specs.Forms.{is_alone}
+
+-- a broker's line stands after another line
+abbrev pub is_late : Bool → Keyword → Bool
+is_late begun Broker = begun
+is_late begun _ = false
+
+-- the client's number is none
+unfoldable pub has_bad_number : Keyword → List (List ℕ) → Bool
+has_bad_number Declare ws = not (is_some (client_of (word_at ws 2)))
+has_bad_number Publish ws = not (is_some (client_of (word_at ws 2)))
+has_bad_number _ ws = false
+
+abbrev pub is_bad_run_name : List ℕ → Bool
+is_bad_run_name w = not (is_run_name (text_of w))
+
+abbrev pub is_bad_name : List ℕ → Bool
+is_bad_name w = is_long (text_of w)
+
+-- a place and a name of it, or a routing key
+unfoldable pub has_bad_place_and_name : List ℕ → List ℕ → Bool
+has_bad_place_and_name place name = is_bad_place (place_of place) || is_bad_name name
+
+-- a broker and a queue
+unfoldable pub has_bad_end : List ℕ → List ℕ → Bool
+has_bad_end broker queue = is_bad_run_name broker || is_bad_name queue
+
+-- a shovel's place and name, and its two ends
+abbrev pub has_bad_shovel_names : List (List ℕ) → Bool
+has_bad_shovel_names ws =
+    has_bad_place_and_name (word_at ws 1) (word_at ws 2)
+    || has_bad_end (word_at ws 3) (word_at ws 4) || has_bad_end (word_at ws 5) (word_at ws 6)
+
+-- a name is too long, or no run name where it has to be one
+unfoldable pub has_bad_names : Keyword → List (List ℕ) → Bool
+has_bad_names Broker ws = is_bad_run_name (word_at ws 1)
+has_bad_names Declare ws = has_bad_place_and_name (word_at ws 1) (word_at ws 4)
+has_bad_names Publish ws = has_bad_place_and_name (word_at ws 1) (word_at ws 4)
+has_bad_names Flush ws = is_bad_run_name (word_at ws 1)
+has_bad_names Shovel ws = has_bad_shovel_names ws
+has_bad_names Show ws = false
+has_bad_names (Link _) ws = is_bad_link (word_at ws 1)
+
+-- the broker's name is taken
+unfoldable pub is_twice : List (List ℕ) → Keyword → List (List ℕ) → Bool
+is_twice brokers Broker ws = list_any (same_text (text_of (word_at ws 1))) brokers
+is_twice brokers _ ws = false
+
+-- a fixed word is none of its choices, or words are left over
+unfoldable pub has_bad_option : Keyword → List (List ℕ) → Bool
+has_bad_option Declare ws = not (same_text (word_at ws 3) (codes "queue")) || not (is_alone (codes "durable") (drop 5 ws))
+has_bad_option Publish ws = not (length ws == 6) && not (is_alone (codes "persistent") (drop 6 ws))
+has_bad_option Shovel ws = not (same_text (word_at ws 7) (codes "on-confirm"))
+has_bad_option _ ws = false
+
+-- a shovel's queue has to have a name, and none that belongs to links (RabbitMQ, dynamic shovels: `src-queue`, `dest-queue`)
+unfoldable pub is_bad_queue : List ℕ → Bool
+is_bad_queue w = length (text_of w) == 0 || is_reserved (text_of w)
+
+-- the body has at most 16,777,216 octets
+unfoldable pub is_bad_body : List ℕ → Bool
+is_bad_body w = nat_lt 16777216 (length (octets_of w))
+
+abbrev pub has_bad_queues : List (List ℕ) → Bool
+has_bad_queues ws = is_bad_queue (word_at ws 4) || is_bad_queue (word_at ws 6)
+
+-- a value isn't one that its place takes
+unfoldable pub has_bad_value : Keyword → List (List ℕ) → Bool
+has_bad_value Publish ws = is_bad_body (word_at ws 5)
+has_bad_value Shovel ws = has_bad_queues ws
+has_bad_value _ ws = false

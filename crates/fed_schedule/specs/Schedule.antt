@@ -1,0 +1,88 @@
+-- A schedule: the lines of a file, each read after those before it.
+use Rattle.std.specs.Prelude.{ℕ, ◌+◌, ◌-◌, List, [], ◌∷◌, ◌++◌, Bool, not, ◌&&◌, ◌||◌, if◌then◌else◌, ◌==◌, length, take, slice_index, Option, Some, None, Result, Ok, Err}
+use Rattle.std.specs.List.{list_all}
+use Rattle.fed_journal.specs.declared.event.Event.{Event}
+use Rattle.fed_schedule.specs.declared.keyword.Keyword.{Keyword}
+use Rattle.fed_schedule.specs.declared.script.Script.{Script}
+use Rattle.fed_schedule.specs.declared.script.LineReason.{LineReason}
+use Rattle.fed_schedule.specs.declared.script.LineReason.TheVariants as why
+use Rattle.fed_schedule.specs.declared.script.ScheduleFault.{ScheduleFault}
+use Rattle.fed_schedule.specs.declared.script.ScheduleFault.TheVariants.{Line}
+use Rattle.fed_schedule.specs.declared.statement.Statement.{Statement}
+use Rattle.fed_schedule.specs.declared.statement.Statement.TheVariants as states
+use Rattle.fed_schedule.specs.Words.{pieces_of, words_of, word_at, is_well_escaped}
+use Rattle.fed_schedule.specs.Forms.{keyword_of, are_texts, is_unbuilt, is_miscounted}
+use Rattle.fed_schedule.specs.Reasons.{is_late, has_bad_number, has_bad_names, is_twice, has_bad_option, has_bad_value}
+use Rattle.fed_schedule.specs.Statements.{statement_of}
+
+-- the brokers of a run and its events, each with the number of its line
+pub record Reading : Type 0 where
+  pub brokers : List (List ℕ)
+  pub events : List (ℕ × Event)
+
+-- the script as lists
+abbrev pub reading_of : Script → Reading
+reading_of s = record { brokers = s.brokers.items; events = s.events.items }
+
+-- the lines end with line feeds, which the last may lack
+unfoldable pub lines_of : List ℕ → List (List ℕ)
+lines_of bytes = pieces_of 10 bytes
+
+-- one carriage return before the end of a line is dropped
+unfoldable pub without_return : List ℕ → List ℕ
+without_return l = if not (length l == 0) && slice_index l (length l - 1) == 13 then take (length l - 1) l else l
+
+-- empty lines and comments
+unfoldable pub is_passed_over : List ℕ → Bool
+is_passed_over l = length l == 0 || slice_index l 0 == 35
+
+-- the first reason of those that are judged once the form is known
+unfoldable pub reason_of : Reading → Keyword → List (List ℕ) → Option LineReason
+reason_of r k ws =
+    if is_unbuilt r.events k ws then Some why.Word else
+    if is_late (not (length r.events == 0)) k then Some why.Order else
+    if is_miscounted k ws then Some why.Count else
+    if not (list_all is_well_escaped ws) then Some why.Escape else
+    if has_bad_number k ws then Some why.Number else
+    if has_bad_names k ws then Some why.Name else
+    if is_twice r.brokers k ws then Some why.Twice else
+    if has_bad_option k ws then Some why.Option else
+    if has_bad_value k ws then Some why.Value else None
+
+abbrev pub unless_refused : Option LineReason → Statement → Result Statement LineReason
+unless_refused None s = Ok s
+unless_refused (Some reason) s = Err reason
+
+abbrev pub of_form : Reading → List (List ℕ) → Option Keyword → Result Statement LineReason
+of_form r ws None = Err why.Word
+of_form r ws (Some k) = unless_refused (reason_of r k ws) (statement_of k ws)
+
+-- what the words state after a part of a schedule, or the first reason that refuses them
+unfoldable pub judge : Reading → List (List ℕ) → Result Statement LineReason
+judge r ws = if not (are_texts ws) then Err why.Text else of_form r ws (keyword_of (word_at ws 0))
+
+-- a part of a schedule, with one statement more
+abbrev pub with_statement : ℕ → Reading → Result Statement LineReason → Result Reading ScheduleFault
+with_statement n r (Ok (states.Broker name)) = Ok (record { brokers = r.brokers ++ name ∷ []; events = r.events })
+with_statement n r (Ok (states.Event event)) = Ok (record { brokers = r.brokers; events = r.events ++ (n, event) ∷ [] })
+with_statement n r (Err reason) = Err (Line n reason)
+
+-- a part of a schedule, with its line n more
+unfoldable pub with_line : ℕ → Reading → List ℕ → Result Reading ScheduleFault
+with_line n r l =
+    if is_passed_over (without_return l) then Ok r
+    else with_statement n r (judge r (words_of (without_return l)))
+
+-- the lines from line n on, after a part of a schedule: the first that is refused refuses all
+unfoldable pub with_lines : ℕ → Result Reading ScheduleFault → List (List ℕ) → Result Reading ScheduleFault
+with_lines n (Err fault) ls = Err fault
+with_lines n (Ok r) [] = Ok r
+with_lines n (Ok r) (l ∷ ls) = with_lines (n + 1) (with_line n r l) ls
+
+-- the script that the lines spell, or the first of them that is refused
+unfoldable pub script_of : List (List ℕ) → Result Reading ScheduleFault
+script_of ls = with_lines 1 (Ok (record { brokers = []; events = [] })) ls
+
+-- the script that a file's octets spell, or where and why they spell none
+unfoldable pub reading : List ℕ → Result Reading ScheduleFault
+reading bytes = script_of (lines_of bytes)

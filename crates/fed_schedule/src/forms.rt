@@ -1,0 +1,237 @@
+//! The forms of lines, by their first word.
+ghost use Rattle.std.specs.Prelude.{◌≡◌, IfOk};
+ghost use Rattle.std.specs.List.{list_any, list_all, starts_with};
+ghost use Rattle.fed_schedule.specs.Words.{is_text, word_at};
+ghost use Rattle.fed_schedule.specs.Forms.{action_of, keyword_of, are_texts, without, are_queue_options, is_alone, is_unbuilt_declare, names_exchange, is_header, is_unbuilt_publish, line_sets_shovel, is_unbuilt_shovel, is_unbuilt, word_count, takes_options, is_empty_word, is_miscounted};
+
+use crate::fields::place_of;
+use crate::keyword::{Action, Keyword};
+use crate::words::{is_text, is_word, text_of, word_at, words_before, words_from};
+use fed_journal::event::Event;
+use fed_journal::place::Place;
+use fed_journal::text::{Octets, Text};
+use std::alloc::{AllocError, Global};
+
+/// What a link does by that word.
+#[tactic(auto, unfolding(crate::specs::Forms::action_of))]
+fn action_of(word: &[u8]) -> Option<Action>
+    ensures { result ≡ action_of word.now }
+{
+    if is_word(word, "open") {
+        return Some(Action::Open);
+    }
+    if is_word(word, "take") {
+        return Some(Action::Take);
+    }
+    if is_word(word, "send") {
+        return Some(Action::Send);
+    }
+    if is_word(word, "accept") {
+        return Some(Action::Accept);
+    }
+    if is_word(word, "confirm") {
+        return Some(Action::Confirm);
+    }
+    if is_word(word, "note") {
+        return Some(Action::Note);
+    }
+    if is_word(word, "settle") {
+        return Some(Action::Settle);
+    }
+    None
+}
+
+/// The form that the first word names.
+#[tactic(auto, unfolding(crate::specs::Forms::keyword_of))]
+pub(crate) fn keyword_of(word: &[u8]) -> Option<Keyword>
+    ensures { result ≡ keyword_of word.now }
+{
+    if is_word(word, "broker") {
+        return Some(Keyword::Broker);
+    }
+    if is_word(word, "declare") {
+        return Some(Keyword::Declare);
+    }
+    if is_word(word, "publish") {
+        return Some(Keyword::Publish);
+    }
+    if is_word(word, "flush") {
+        return Some(Keyword::Flush);
+    }
+    if is_word(word, "shovel") {
+        return Some(Keyword::Shovel);
+    }
+    if is_word(word, "show") {
+        return Some(Keyword::Show);
+    }
+    match action_of(word) {
+        Some(action) => Some(Keyword::Link(action)),
+        None => None,
+    }
+}
+
+fn all_texts(alloc: Global, words: &[Octets]) -> Result<bool, AllocError>
+    ensures { IfOk result (λ texts. texts ≡ list_all is_text words.now) }
+{
+    for word in words {
+        if !is_text(alloc, word.as_slice())? {
+            return Ok(false);
+        }
+    }
+    Ok(true)
+}
+
+/// Whether all words but the body of a message are texts.
+#[tactic(auto, unfolding(crate::specs::Forms::are_texts))]
+pub(crate) fn are_texts(alloc: Global, words: &[Octets]) -> Result<bool, AllocError>
+    ensures { IfOk result (λ texts. texts ≡ are_texts words.now) }
+{
+    if !is_word(word_at(words, 0), "publish") {
+        return all_texts(alloc, words);
+    }
+    if !all_texts(alloc, words_before(words, 5))? {
+        return Ok(false);
+    }
+    all_texts(alloc, words_from(words, 6))
+}
+
+/// The words after an option, if it stands first.
+#[tactic(auto, unfolding(crate::specs::Forms::without))]
+fn without<'a>(option: &str, words: &'a [Octets]) -> &'a [Octets]
+    ensures { result.now ≡ without option.now words.now }
+{
+    if is_word(word_at(words, 0), option) {
+        words_from(words, 1)
+    } else {
+        words
+    }
+}
+
+/// Whether the words are none, or some of a queue's options in their order.
+#[tactic(auto, unfolding(crate::specs::Forms::are_queue_options))]
+fn are_queue_options(words: &[Octets]) -> bool
+    ensures { result ≡ are_queue_options words.now }
+{
+    let rest = without("durable", words);
+    let rest = without("exclusive", rest);
+    without("auto-delete", rest).is_empty()
+}
+
+/// Whether the words are this option alone.
+pub(crate) fn is_alone(option: &str, words: &[Octets]) -> bool
+    ensures { result ≡ is_alone option.now words.now }
+{
+    words.len() == 1 && is_word(word_at(words, 0), option)
+}
+
+#[tactic(auto, unfolding(crate::specs::Forms::is_unbuilt_declare))]
+fn is_unbuilt_declare(words: &[Octets]) -> bool
+    ensures { result ≡ is_unbuilt_declare words.now }
+{
+    let kind = word_at(words, 3);
+    let options = words_from(words, 5);
+    is_word(kind, "exchange")
+        || (is_word(kind, "queue")
+            && words.len() >= 5
+            && are_queue_options(options)
+            && !is_alone("durable", options))
+}
+
+fn names_exchange(word: &[u8]) -> bool
+    ensures { result ≡ names_exchange word.now }
+{
+    !word.is_empty() && !is_word(word, "-")
+}
+
+fn has_header(words: &[Octets]) -> bool
+    ensures { result ≡ list_any is_header words.now }
+{
+    words
+        .iter()
+        .any(|word| word.as_slice().starts_with(b"header="))
+}
+
+#[tactic(auto, unfolding(crate::specs::Forms::is_unbuilt_publish))]
+fn is_unbuilt_publish(words: &[Octets]) -> bool
+    ensures { result ≡ is_unbuilt_publish words.now }
+{
+    names_exchange(word_at(words, 3)) || has_header(words_from(words, 6))
+}
+
+/// Whether one of the events sets this shovel.
+fn is_shovel_set(events: &[(u32, Event)], place: &Place, name: &Text) -> bool
+    ensures { result ≡ list_any (line_sets_shovel place.now name.now) events.now }
+{
+    events.iter().any(
+        |line| matches!(&line.1, Event::SetShovel { place: at, name: set, .. } if at == place && set == name),
+    )
+}
+
+#[tactic(auto, unfolding(crate::specs::Forms::is_unbuilt_shovel))]
+fn is_unbuilt_shovel(
+    alloc: Global,
+    events: &[(u32, Event)],
+    words: &[Octets],
+) -> Result<bool, AllocError>
+    ensures { IfOk result (λ unbuilt. unbuilt ≡ is_unbuilt_shovel events.now words.now) }
+{
+    let mode = word_at(words, 7);
+    if is_word(mode, "on-publish") || is_word(mode, "no-ack") {
+        return Ok(true);
+    }
+    let place = place_of(alloc, word_at(words, 1))?;
+    let name = text_of(alloc, word_at(words, 2))?;
+    Ok(is_shovel_set(events, &place, &name))
+}
+
+/// Whether the form of the line isn't built yet.
+#[tactic(auto, unfolding(crate::specs::Forms::is_unbuilt))]
+pub(crate) fn is_unbuilt(
+    alloc: Global,
+    events: &[(u32, Event)],
+    keyword: Keyword,
+    words: &[Octets],
+) -> Result<bool, AllocError>
+    ensures { IfOk result (λ unbuilt. unbuilt ≡ is_unbuilt events.now keyword words.now) }
+{
+    match keyword {
+        Keyword::Declare => Ok(is_unbuilt_declare(words)),
+        Keyword::Publish => Ok(is_unbuilt_publish(words)),
+        Keyword::Shovel => is_unbuilt_shovel(alloc, events, words),
+        _ => Ok(false),
+    }
+}
+
+/// The words of a form, without its options.
+fn word_count(keyword: Keyword) -> usize
+    ensures { result ≡ word_count keyword }
+{
+    match keyword {
+        Keyword::Broker | Keyword::Flush | Keyword::Link(_) => 2,
+        Keyword::Declare => 5,
+        Keyword::Publish => 6,
+        Keyword::Shovel => 8,
+        Keyword::Show => 1,
+    }
+}
+
+fn takes_options(keyword: Keyword) -> bool
+    ensures { result ≡ takes_options keyword }
+{
+    matches!(keyword, Keyword::Declare | Keyword::Publish)
+}
+
+fn has_empty_word(words: &[Octets]) -> bool
+    ensures { result ≡ list_any is_empty_word words.now }
+{
+    words.iter().any(|word| word.as_slice().is_empty())
+}
+
+/// Whether words are missing, too many, or empty.
+#[tactic(auto, unfolding(crate::specs::Forms::is_miscounted))]
+pub(crate) fn is_miscounted(keyword: Keyword, words: &[Octets]) -> bool
+    ensures { result ≡ is_miscounted keyword words.now }
+{
+    let count = word_count(keyword);
+    has_empty_word(words) || words.len() < count || (!takes_options(keyword) && count < words.len())
+}

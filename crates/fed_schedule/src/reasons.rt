@@ -1,0 +1,186 @@
+//! What makes a line's words no values of its form.
+ghost use Rattle.std.specs.Prelude.{◌≡◌, IfOk};
+ghost use Rattle.std.specs.List.{list_any};
+ghost use Rattle.fed_journal.specs.Names.{same_text};
+ghost use Rattle.fed_schedule.specs.Reasons.{is_late, has_bad_number, is_bad_run_name, is_bad_name, has_bad_place_and_name, has_bad_end, has_bad_shovel_names, has_bad_names, is_twice, has_bad_option, is_bad_queue, is_bad_body, has_bad_queues, has_bad_value};
+
+use crate::fields::{is_bad_place, is_long, is_run_name, place_of};
+use crate::forms::is_alone;
+use crate::keyword::Keyword;
+use crate::links::is_bad_link;
+use crate::numbers::client_of;
+use crate::words::{is_word, octets_of, text_of, word_at, words_from};
+use fed_journal::text::{Octets, Text, is_reserved};
+use std::alloc::{AllocError, Global};
+
+/// The most octets of a message's body.
+const MAX_BODY: usize = 16_777_216;
+
+/// Whether a broker's line stands after another line.
+pub(crate) fn is_late(begun: bool, keyword: Keyword) -> bool
+    ensures { result ≡ is_late begun keyword }
+{
+    match keyword {
+        Keyword::Broker => begun,
+        _ => false,
+    }
+}
+
+/// Whether the client's number is none.
+#[tactic(auto, unfolding(crate::specs::Reasons::has_bad_number))]
+pub(crate) fn has_bad_number(keyword: Keyword, words: &[Octets]) -> bool
+    ensures { result ≡ has_bad_number keyword words.now }
+{
+    match keyword {
+        Keyword::Declare => client_of(word_at(words, 2)).is_none(),
+        Keyword::Publish => client_of(word_at(words, 2)).is_none(),
+        _ => false,
+    }
+}
+
+fn is_bad_run_name(alloc: Global, word: &[u8]) -> Result<bool, AllocError>
+    ensures { IfOk result (λ bad. bad ≡ is_bad_run_name word.now) }
+{
+    let text = text_of(alloc, word)?;
+    Ok(!is_run_name(&text))
+}
+
+fn is_bad_name(alloc: Global, word: &[u8]) -> Result<bool, AllocError>
+    ensures { IfOk result (λ bad. bad ≡ is_bad_name word.now) }
+{
+    let text = text_of(alloc, word)?;
+    Ok(is_long(&text))
+}
+
+#[tactic(auto, unfolding(crate::specs::Reasons::has_bad_place_and_name))]
+fn has_bad_place_and_name(alloc: Global, place: &[u8], name: &[u8]) -> Result<bool, AllocError>
+    ensures { IfOk result (λ bad. bad ≡ has_bad_place_and_name place.now name.now) }
+{
+    let place = place_of(alloc, place)?;
+    if is_bad_place(&place) {
+        return Ok(true);
+    }
+    is_bad_name(alloc, name)
+}
+
+#[tactic(auto, unfolding(crate::specs::Reasons::has_bad_end))]
+fn has_bad_end(alloc: Global, broker: &[u8], queue: &[u8]) -> Result<bool, AllocError>
+    ensures { IfOk result (λ bad. bad ≡ has_bad_end broker.now queue.now) }
+{
+    if is_bad_run_name(alloc, broker)? {
+        return Ok(true);
+    }
+    is_bad_name(alloc, queue)
+}
+
+fn has_bad_shovel_names(alloc: Global, words: &[Octets]) -> Result<bool, AllocError>
+    ensures { IfOk result (λ bad. bad ≡ has_bad_shovel_names words.now) }
+{
+    if has_bad_place_and_name(alloc, word_at(words, 1), word_at(words, 2))? {
+        return Ok(true);
+    }
+    if has_bad_end(alloc, word_at(words, 3), word_at(words, 4))? {
+        return Ok(true);
+    }
+    has_bad_end(alloc, word_at(words, 5), word_at(words, 6))
+}
+
+/// Whether a name is too long, or no run name where it has to be one.
+#[tactic(auto, unfolding(crate::specs::Reasons::has_bad_names))]
+pub(crate) fn has_bad_names(
+    alloc: Global,
+    keyword: Keyword,
+    words: &[Octets],
+) -> Result<bool, AllocError>
+    ensures { IfOk result (λ bad. bad ≡ has_bad_names keyword words.now) }
+{
+    match keyword {
+        Keyword::Broker => is_bad_run_name(alloc, word_at(words, 1)),
+        Keyword::Declare => has_bad_place_and_name(alloc, word_at(words, 1), word_at(words, 4)),
+        Keyword::Publish => has_bad_place_and_name(alloc, word_at(words, 1), word_at(words, 4)),
+        Keyword::Flush => is_bad_run_name(alloc, word_at(words, 1)),
+        Keyword::Shovel => has_bad_shovel_names(alloc, words),
+        Keyword::Show => Ok(false),
+        Keyword::Link(_) => is_bad_link(alloc, word_at(words, 1)),
+    }
+}
+
+fn is_taken(brokers: &[Text], name: &Text) -> bool
+    ensures { result ≡ list_any (same_text name.now) brokers.now }
+{
+    brokers.iter().any(|broker| name == broker)
+}
+
+/// Whether the broker's name is taken.
+#[tactic(auto, unfolding(crate::specs::Reasons::is_twice))]
+pub(crate) fn is_twice(
+    alloc: Global,
+    brokers: &[Text],
+    keyword: Keyword,
+    words: &[Octets],
+) -> Result<bool, AllocError>
+    ensures { IfOk result (λ twice. twice ≡ is_twice brokers.now keyword words.now) }
+{
+    match keyword {
+        Keyword::Broker => {
+            let name = text_of(alloc, word_at(words, 1))?;
+            Ok(is_taken(brokers, &name))
+        }
+        _ => Ok(false),
+    }
+}
+
+/// Whether a fixed word is none of its choices, or words are left over.
+#[tactic(auto, unfolding(crate::specs::Reasons::has_bad_option))]
+pub(crate) fn has_bad_option(keyword: Keyword, words: &[Octets]) -> bool
+    ensures { result ≡ has_bad_option keyword words.now }
+{
+    match keyword {
+        Keyword::Declare => !is_word(word_at(words, 3), "queue")
+            || !is_alone("durable", words_from(words, 5)),
+        Keyword::Publish => words.len() != 6 && !is_alone("persistent", words_from(words, 6)),
+        Keyword::Shovel => !is_word(word_at(words, 7), "on-confirm"),
+        _ => false,
+    }
+}
+
+#[tactic(auto, unfolding(crate::specs::Reasons::is_bad_queue))]
+fn is_bad_queue(alloc: Global, word: &[u8]) -> Result<bool, AllocError>
+    ensures { IfOk result (λ bad. bad ≡ is_bad_queue word.now) }
+{
+    let queue = text_of(alloc, word)?;
+    Ok(queue.as_str().is_empty() || is_reserved(&queue))
+}
+
+#[tactic(auto, unfolding(crate::specs::Reasons::is_bad_body))]
+fn is_bad_body(alloc: Global, word: &[u8]) -> Result<bool, AllocError>
+    ensures { IfOk result (λ bad. bad ≡ is_bad_body word.now) }
+{
+    let body = octets_of(alloc, word)?;
+    Ok(body.as_slice().len() > MAX_BODY)
+}
+
+fn has_bad_queues(alloc: Global, words: &[Octets]) -> Result<bool, AllocError>
+    ensures { IfOk result (λ bad. bad ≡ has_bad_queues words.now) }
+{
+    if is_bad_queue(alloc, word_at(words, 4))? {
+        return Ok(true);
+    }
+    is_bad_queue(alloc, word_at(words, 6))
+}
+
+/// Whether a value isn't one that its place takes.
+#[tactic(auto, unfolding(crate::specs::Reasons::has_bad_value))]
+pub(crate) fn has_bad_value(
+    alloc: Global,
+    keyword: Keyword,
+    words: &[Octets],
+) -> Result<bool, AllocError>
+    ensures { IfOk result (λ bad. bad ≡ has_bad_value keyword words.now) }
+{
+    match keyword {
+        Keyword::Publish => is_bad_body(alloc, word_at(words, 5)),
+        Keyword::Shovel => has_bad_queues(alloc, words),
+        _ => Ok(false),
+    }
+}

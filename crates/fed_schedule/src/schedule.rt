@@ -1,0 +1,204 @@
+//! The reader of schedules.
+ghost use Rattle.std.specs.Prelude.{◌≡◌, ◌≢◌, ◌+◌, ◌≤◌, ◌<◌, ◌^◌, Ok, Err, Some, None, IfOk, IfErr, OnOk, OnErr, length, not};
+ghost use Rattle.std.specs.List.{list_all};
+ghost use Rattle.fed_schedule.specs.Words.{is_well_escaped, words_of};
+ghost use Rattle.fed_schedule.specs.Schedule.{reading_of, lines_of, without_return, is_passed_over, reason_of, judge, with_line, script_of, reading};
+
+use crate::forms::{are_texts, is_miscounted, is_unbuilt, keyword_of};
+use crate::keyword::Keyword;
+use crate::reasons::{
+    has_bad_names, has_bad_number, has_bad_option, has_bad_value, is_late, is_twice,
+};
+use crate::script::{LineReason, MAX_SCHEDULE, ScheduleFault, Script};
+use crate::statement::{Statement, statement_of};
+use crate::words::{is_well_escaped, split, word_at, words_of};
+use fed_journal::text::Octets;
+use std::alloc::{AllocError, Global};
+
+/// The lines of a file.
+#[tactic(auto, unfolding(crate::specs::Schedule::lines_of))]
+fn lines_of(alloc: Global, bytes: &[u8]) -> Result<Vec<Octets>, AllocError>
+    ensures lines { IfOk result (λ lines. lines.items ≡ lines_of bytes.now) }
+    ensures within { IfOk result (λ lines. length lines.items ≤ length bytes.now + 1) }
+{
+    split(alloc, bytes, b'\n')
+}
+
+/// The line without a carriage return at its end.
+#[tactic(auto, unfolding(crate::specs::Schedule::without_return))]
+fn without_return(line: &[u8]) -> &[u8]
+    ensures { result.now ≡ without_return line.now }
+{
+    if !line.is_empty() && line[line.len() - 1] == b'\r' {
+        return &line[..line.len() - 1];
+    }
+    line
+}
+
+/// Whether the line is empty or a comment.
+#[tactic(auto, unfolding(crate::specs::Schedule::is_passed_over))]
+fn is_passed_over(line: &[u8]) -> bool
+    ensures { result ≡ is_passed_over line.now }
+{
+    line.is_empty() || line[0] == b'#'
+}
+
+fn are_well_escaped(words: &[Octets]) -> bool
+    ensures { result ≡ list_all is_well_escaped words.now }
+{
+    words.iter().all(|word| is_well_escaped(word.as_slice()))
+}
+
+/// Why the words of a form are refused after a part of a schedule.
+#[tactic(auto, unfolding(crate::specs::Schedule::reason_of))]
+fn reason_of(
+    alloc: Global,
+    script: &Script,
+    keyword: Keyword,
+    words: &[Octets],
+) -> Result<Option<LineReason>, AllocError>
+    ensures { IfOk result (λ reason. reason ≡ reason_of (reading_of script.now) keyword words.now) }
+{
+    if is_unbuilt(alloc, script.events.as_slice(), keyword, words)? {
+        return Ok(Some(LineReason::Word));
+    }
+    if is_late(!script.events.is_empty(), keyword) {
+        return Ok(Some(LineReason::Order));
+    }
+    if is_miscounted(keyword, words) {
+        return Ok(Some(LineReason::Count));
+    }
+    if !are_well_escaped(words) {
+        return Ok(Some(LineReason::Escape));
+    }
+    if has_bad_number(keyword, words) {
+        return Ok(Some(LineReason::Number));
+    }
+    if has_bad_names(alloc, keyword, words)? {
+        return Ok(Some(LineReason::Name));
+    }
+    if is_twice(alloc, script.brokers.as_slice(), keyword, words)? {
+        return Ok(Some(LineReason::Twice));
+    }
+    if has_bad_option(keyword, words) {
+        return Ok(Some(LineReason::Option));
+    }
+    if has_bad_value(alloc, keyword, words)? {
+        return Ok(Some(LineReason::Value));
+    }
+    Ok(None)
+}
+
+/// What the words state after a part of a schedule, or why they are refused.
+#[tactic(auto, unfolding(crate::specs::Schedule::judge))]
+fn judge(
+    alloc: Global,
+    script: &Script,
+    words: &[Octets],
+) -> Result<Result<Statement, LineReason>, AllocError>
+    ensures { IfOk result (λ judged. judged ≡ judge (reading_of script.now) words.now) }
+{
+    if !are_texts(alloc, words)? {
+        return Ok(Err(LineReason::Text));
+    }
+    let Some(keyword) = keyword_of(word_at(words, 0)) else {
+        return Ok(Err(LineReason::Word));
+    };
+    match reason_of(alloc, script, keyword, words)? {
+        Some(reason) => Ok(Err(reason)),
+        None => Ok(Ok(statement_of(alloc, keyword, words)?)),
+    }
+}
+
+/// Adds a line to a part of a schedule.
+#[tactic(auto, unfolding(crate::specs::Schedule::with_line))]
+fn read_line(
+    alloc: Global,
+    script: &mut Script,
+    number: u32,
+    line: &[u8],
+) -> Result<(), ScheduleFault>
+    ensures ok { OnOk result (with_line number (reading_of script.old) line.now ≡ Ok (reading_of script.new)) }
+    ensures err { IfErr result (λ fault. fault ≢ ScheduleFault.Memory → with_line number (reading_of script.old) line.now ≡ Err fault) }
+{
+    let line = without_return(line);
+    if is_passed_over(line) {
+        return Ok(());
+    }
+    let words = words_of(alloc, line).map_err(|_| ScheduleFault::Memory)?;
+    match judge(alloc, script, words.as_slice()).map_err(|_| ScheduleFault::Memory)? {
+        Ok(Statement::Broker(name)) => script.brokers.push(name).map_err(|_| ScheduleFault::Memory),
+        Ok(Statement::Event(event)) => script
+            .events
+            .push((number, event))
+            .map_err(|_| ScheduleFault::Memory),
+        Err(reason) => Err(ScheduleFault::Line {
+            line: number,
+            reason,
+        }),
+    }
+}
+
+/// Reads the lines of a schedule.
+#[tactic(auto, unfolding(crate::specs::Schedule::script_of, crate::specs::Schedule::with_lines))]
+fn read_lines(alloc: Global, lines: &[Octets]) -> Result<Script, ScheduleFault>
+    requires { length lines.now ≤ MAX_SCHEDULE + 1 }
+    ensures ok { IfOk result (λ script. script_of lines.now ≡ Ok (reading_of script)) }
+    ensures err { IfErr result (λ fault. fault ≢ ScheduleFault.Memory → script_of lines.now ≡ Err fault) }
+{
+    let mut script = Script {
+        brokers: Vec::new(alloc),
+        events: Vec::new(alloc),
+    };
+    for (index, line) in lines.iter().enumerate() {
+        read_line(alloc, &mut script, index as u32 + 1, line.as_slice())?;
+    }
+    Ok(script)
+}
+
+/// Reads a schedule.
+///
+/// The script is the one that the octets spell by the definition `reading`. `Line` comes exactly where
+/// they spell none, with the first line that is refused and the first reason that applies to it.
+/// `Memory` comes only where memory runs out.
+#[tactic(auto, unfolding(crate::specs::Schedule::reading))]
+pub fn read(alloc: Global, bytes: &[u8]) -> Result<Script, ScheduleFault>
+    requires { length bytes.now ≤ MAX_SCHEDULE }
+    ensures ok { IfOk result (λ script. reading bytes.now ≡ Ok (reading_of script)) }
+    ensures err { IfErr result (λ fault. fault ≢ ScheduleFault.Memory → reading bytes.now ≡ Err fault) }
+{
+    let lines = lines_of(alloc, bytes).map_err(|_| ScheduleFault::Memory)?;
+    read_lines(alloc, lines.as_slice())
+}
+
+#[cfg(test)]
+mod tests {
+    use super::*;
+    use fed_journal::event::Event;
+    use std::test::Fail;
+
+    #[test]
+    fn reads_a_script(rt: HostRuntime) -> Result<(), Fail> {
+        let script = read(rt.alloc(), b"broker a\r\n# b\n\nflush a\nopen s/b:%2f/s")?;
+        assert_eq!(rt; script.brokers.len(), 1);
+        assert_eq!(rt; script.events.len(), 2);
+        let (line, event) = &script.events[1];
+        assert_eq!(rt; *line, 5);
+        assert!(rt; matches!(event, Event::Open { link } if link.as_str() == "s/b/s"));
+        Ok(())
+    }
+
+    #[test]
+    fn refuses_the_first_bad_line(rt: HostRuntime) {
+        let refused = read(rt.alloc(), b"broker a\nbroker a\nflush %");
+        assert!(rt;
+            matches!(
+                refused,
+                Err(ScheduleFault::Line {
+                    line: 2,
+                    reason: LineReason::Twice
+                })
+            )
+        );
+    }
+}
