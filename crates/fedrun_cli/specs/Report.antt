@@ -1,5 +1,5 @@
 -- What a run prints.
-use Rattle.std.specs.Prelude.{ℕ, ◌+◌, ◌-◌, List, [], ◌∷◌, ◌++◌, Bool, true, false, length, count_by, flat_map, Result, Ok, Err, codes}
+use Rattle.std.specs.Prelude.{ℕ, ◌+◌, ◌-◌, List, [], ◌∷◌, ◌++◌, length, sum_by, flat_map, Result, Ok, Err, codes}
 use Rattle.std.specs.Fmt.{decimal}
 use Rattle.fed_journal.specs.declared.entry.Entry.{Entry}
 use Rattle.fed_journal.specs.declared.event.Event.{Event}
@@ -41,12 +41,13 @@ told line J event (Err reason) = not_now_line line reason
 unfoldable pub moment_text : Moment → List ℕ
 moment_text m = told m.line m.journal m.event m.row
 
-abbrev pub is_done_row : Row → Bool
-is_done_row (Ok entries) = true
-is_done_row (Err reason) = false
+abbrev pub done_by : Row → ℕ
+done_by (Ok entries) = 1
+done_by (Err reason) = 0
 
-abbrev pub is_done : Moment → Bool
-is_done m = is_done_row m.row
+-- 1 if the event happened
+abbrev pub done_at : Moment → ℕ
+done_at m = done_by m.row
 
 -- the journal after the last moment
 abbrev pub last_journal : List Entry → List Moment → List Entry
@@ -59,8 +60,11 @@ summary_line events done entries =
     codes "events " ++ decimal events ++ codes " done " ++ decimal done ++ codes " not-now " ++ decimal (events - done)
     ++ codes " entries " ++ decimal entries ++ codes "\n"
 
--- the lines of the events, then the listing of the end and the summary
-unfoldable pub report : List Entry → List Moment → List ℕ
-report J ms =
+abbrev pub report_of : List Entry → ℕ → List Moment → List ℕ
+report_of J events ms =
     flat_map moment_text ms ++ codes "end\n" ++ listing (last_journal J ms)
-    ++ summary_line (length ms) (count_by is_done ms) (length (last_journal J ms))
+    ++ summary_line events (sum_by done_at ms) (length (last_journal J ms))
+
+-- the lines of the events, then the listing of the end and the summary
+unfoldable pub report : List Entry → List (ℕ × Event) → List ℕ
+report J events = report_of J (length events) (run J events)

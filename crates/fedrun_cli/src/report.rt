@@ -1,8 +1,8 @@
 //! The report of a run.
-ghost use Rattle.std.specs.Prelude.{◌≡◌, ◌+◌, ◌≤◌, ◌<◌, ◌-◌, ◌++◌, Ok, Err, IfOk, OnOk, OnErr, List, length, drop, flat_map, count_by};
+ghost use Rattle.std.specs.Prelude.{◌≡◌, ◌+◌, ◌≤◌, ◌<◌, ◌-◌, ◌++◌, Ok, Err, IfOk, OnOk, OnErr, List, length, drop, flat_map, sum_by};
 ghost use Rattle.fed_world.specs.Step.{next, after, IsOver, outcome_of};
 ghost use Rattle.fed_world.specs.Run.{begin, run, moment};
-ghost use Rattle.fedrun_cli.specs.Report.{reason_word, not_now_line, show_lines, shown, moment_text, is_done, is_done_row, last_journal, summary_line, report};
+ghost use Rattle.fedrun_cli.specs.Report.{reason_word, not_now_line, show_lines, shown, moment_text, done_by, done_at, last_journal, summary_line, report_of, report};
 
 use fed_journal::event::Event;
 use fed_journal::journal::Journal;
@@ -66,23 +66,87 @@ fn push_shown(alloc: Global, page: &mut Page, line: u32, event: &Event, world: &
     }
 }
 
-/// Does an event and appends what it prints. Answers whether it happened.
+/// Does an event and appends what it prints. Answers 1 if it happened, else 0.
 #[tactic(auto, unfolding(crate::specs::Report::moment_text))]
-fn push_moment(alloc: Global, page: &mut Page, world: &mut World, line: u32, event: &Event) -> Result<bool, StepFault>
+fn push_moment(alloc: Global, page: &mut Page, world: &mut World, line: u32, event: &Event) -> Result<usize, StepFault>
     ensures page { OnOk result (page.new ≡ page.old ++ moment_text (moment world.old line event.now)) }
     ensures world { OnOk result (world.new ≡ after world.old (next world.old event.now)) }
-    ensures done { IfOk result (λ done. done ≡ is_done_row (next world.old event.now)) }
+    ensures done { IfOk result (λ done. done ≡ done_by (next world.old event.now)) }
     ensures full { result ≡ Err StepFault.Entries → IsOver world.old (next world.old event.now) }
 {
     match world.step(event) {
         Ok(Outcome::Done(_)) => match push_shown(alloc, page, line, event, world) {
-            Ok(()) => Ok(true),
+            Ok(()) => Ok(1),
             Err(_) => Err(StepFault::Memory),
         },
         Ok(Outcome::NotNow(reason)) => match push_not_now(page, line, reason) {
-            Ok(()) => Ok(false),
+            Ok(()) => Ok(0),
             Err(_) => Err(StepFault::Memory),
         },
         Err(fault) => Err(fault),
     }
+}
+
+/// Why a run has no report.
+pub(crate) enum ReplayFault {
+    /// The event of that line would pass the journal's limit.
+    Entries { line: u32 },
+    Memory,
+}
+
+impl From<AllocError> for ReplayFault {
+    fn from(_: AllocError) -> Self {
+        ReplayFault::Memory
+    }
+}
+
+/// Does the events in order and appends what they print. Answers how many happened.
+fn push_moments(alloc: Global, page: &mut Page, world: &mut World, events: &[(u32, Event)]) -> Result<usize, ReplayFault>
+    ensures page { OnOk result (page.new ≡ page.old ++ flat_map moment_text (run world.old events.now)) }
+    ensures world { OnOk result (world.new ≡ last_journal world.old (run world.old events.now)) }
+    ensures done { IfOk result (λ done. done ≡ sum_by done_at (run world.old events.now)) }
+    ensures within { IfOk result (λ done. done ≤ length events.now) }
+{
+    let mut done = 0;
+    for (line, event) in events {
+        match push_moment(alloc, page, world, *line, event) {
+            Ok(count) => done += count,
+            Err(StepFault::Entries) => return Err(ReplayFault::Entries { line: *line }),
+            Err(StepFault::Memory) => return Err(ReplayFault::Memory),
+        }
+    }
+    Ok(done)
+}
+
+/// Appends the summary.
+#[tactic(auto, unfolding(crate::specs::Report::summary_line))]
+fn push_summary(page: &mut Page, events: usize, done: usize, entries: usize) -> Result<(), AllocError>
+    requires { done ≤ events }
+    ensures { OnOk result (page.new ≡ page.old ++ summary_line events done entries) }
+{
+    page.push("events ")?;
+    page.push_number(events as u64)?;
+    page.push(" done ")?;
+    page.push_number(done as u64)?;
+    page.push(" not-now ")?;
+    page.push_number((events - done) as u64)?;
+    page.push(" entries ")?;
+    page.push_number(entries as u64)?;
+    page.push("\n")
+}
+
+/// The whole output of a run of these bare brokers.
+#[tactic(auto, unfolding(crate::specs::Report::report))]
+pub(crate) fn report(alloc: Global, brokers: &[Text], events: &[(u32, Event)]) -> Result<Page, ReplayFault>
+    requires { length brokers.now ≤ 64 }
+    ensures { IfOk result (λ page. page ≡ report (begin brokers.now) events.now) }
+{
+    let mut world = World::begin(alloc, brokers)?;
+    let mut page = Page::new(alloc);
+    let done = push_moments(alloc, &mut page, &mut world, events)?;
+    page.push("end\n")?;
+    let entries = world.journal().entries();
+    push_listing(alloc, entries, &mut page)?;
+    push_summary(&mut page, events.len(), done, entries.len())?;
+    Ok(page)
 }
