@@ -1,1 +1,5 @@
+pub mod Endings
+pub mod Ends
+pub mod Outcomes
 pub mod Report
+pub mod Words

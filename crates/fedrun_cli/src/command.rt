@@ -1,0 +1,118 @@
+//! The command `run`.
+ghost use Rattle.std.specs.Prelude.{◌≡◌, ◌≤◌, [], length, vec_len, false, IfOk, IfErr, Ok, string_bytes};
+ghost use Rattle.fed_schedule.specs.Schedule.{Reading, reading, reading_of};
+ghost use Rattle.fedrun_cli.specs.Endings.{status_of, error_line, Took};
+ghost use Rattle.fedrun_cli.specs.Ends.{Outside, EndsRun};
+ghost use Rattle.fedrun_cli.specs.Outcomes.{HasFile, LoadEnds, ReadEnds, Explains, output};
+
+use crate::ending::{Ending, say, status_of};
+use crate::report::{ReplayFault, report};
+use fed_journal::page::Page;
+use fed_outside::{Loaded, Shelf, Sink};
+use fed_schedule::schedule::read;
+use fed_schedule::script::{Script, ScheduleFault};
+use std::alloc::Global;
+
+/// The most octets of a schedule's file.
+pub const MAX_FILE: usize = 512;
+
+/// The most places of a run.
+pub const MAX_PLACES: usize = 64;
+
+/// A broker argument of the command line: a run name and the file of its definitions.
+#[derive(Drop)]
+pub struct BrokerArg {
+    pub name: String,
+    pub file: String,
+}
+
+/// Loads the schedule's file.
+fn load<F: Shelf>(alloc: Global, schedule: &str, shelf: &mut F) -> Result<Vec<u8>, Ending>
+    ensures within { IfOk result (λ bytes. length bytes.items ≤ MAX_FILE) }
+    ensures content { IfOk result (λ bytes. HasFile (F.files shelf.old) schedule.now (λ content. content ≡ bytes.items)) }
+    ensures ending { IfErr result (LoadEnds (F.files shelf.old) schedule.now (F.faults shelf.old) (F.faults shelf.new)) }
+{
+    match shelf.load(alloc, schedule, MAX_FILE) {
+        Loaded::Bytes(bytes) => Ok(bytes),
+        Loaded::Absent => Err(Ending::Absent),
+        Loaded::TooLong => Err(Ending::FileTooLong),
+        Loaded::Failed => Err(Ending::ReadFault),
+        Loaded::Memory => Err(Ending::Memory),
+    }
+}
+
+/// The script that the octets spell.
+fn script_of(alloc: Global, bytes: &[u8]) -> Result<Script, Ending>
+    requires { length bytes.now ≤ MAX_FILE }
+    ensures script { IfOk result (λ script. reading bytes.now ≡ Ok (reading_of script)) }
+    ensures ending { IfErr result (ReadEnds bytes.now) }
+{
+    match read(alloc, bytes) {
+        Ok(script) => Ok(script),
+        Err(ScheduleFault::Line { line, reason }) => Err(Ending::Line { line, reason }),
+        Err(ScheduleFault::Memory) => Err(Ending::Memory),
+    }
+}
+
+/// The output of the run that the octets spell.
+fn output_of(alloc: Global, bytes: &[u8]) -> Result<Page, Ending>
+    requires { length bytes.now ≤ MAX_FILE }
+    ensures output { IfOk result (λ page. (r : Reading) × (reading bytes.now ≡ Ok r) × (page ≡ output r)) }
+    ensures ending { IfErr result (ReadEnds bytes.now) }
+{
+    let script = script_of(alloc, bytes)?;
+    if script.brokers.len() > MAX_PLACES {
+        return Err(Ending::Places);
+    }
+    match report(alloc, script.brokers.as_slice(), script.events.as_slice()) {
+        Ok(page) => Ok(page),
+        Err(ReplayFault::Entries { line }) => Err(Ending::Entries { line }),
+        Err(ReplayFault::Memory) => Err(Ending::Memory),
+    }
+}
+
+/// Runs the schedule and puts the output. Nothing is put unless the output is whole.
+fn run_schedule<F: Shelf, O: Sink>(alloc: Global, schedule: &str, shelf: &mut F, out: &mut O) -> Ending
+    ensures { Explains (F.files shelf.old) schedule.now (F.faults shelf.old) (F.faults shelf.new) (O.told out.old) (O.told out.new) (O.faults out.old) (O.faults out.new) result }
+{
+    let bytes = match load(alloc, schedule, shelf) {
+        Ok(bytes) => bytes,
+        Err(ending) => return ending,
+    };
+    let page = match output_of(alloc, bytes.as_slice()) {
+        Ok(page) => page,
+        Err(ending) => return ending,
+    };
+    if out.put(page.as_str().as_bytes()) {
+        Ending::Done
+    } else {
+        Ending::WriteFault
+    }
+}
+
+/// Runs a schedule: loads and reads the file, replays it, and prints the report. Answers the exit status, and puts the line of
+/// any status but 0 into `err`. In this version the run has no broker arguments, and no output but the report.
+pub fn run_command<F: Shelf, O: Sink, E: Sink>(
+    alloc: Global,
+    schedule: &str,
+    brokers: &[BrokerArg],
+    journal: bool,
+    wire: bool,
+    shelf: &mut F,
+    out: &mut O,
+    err: &mut E,
+) -> u8
+    requires bare { length brokers.now ≡ 0 }
+    requires no_journal { journal ≡ false }
+    requires no_wire { wire ≡ false }
+    ensures {
+      EndsRun schedule.now
+        (record { files = F.files shelf.old; read_faults = F.faults shelf.old; out_told = O.told out.old; out_faults = O.faults out.old; err_told = E.told err.old; err_faults = E.faults err.old })
+        (record { files = F.files shelf.new; read_faults = F.faults shelf.new; out_told = O.told out.new; out_faults = O.faults out.new; err_told = E.told err.new; err_faults = E.faults err.new })
+        result
+    }
+{
+    let ending = run_schedule(alloc, schedule, shelf, out);
+    let ending = say(alloc, ending, schedule, err);
+    status_of(ending)
+}

@@ -1,0 +1,170 @@
+//! How a command ends.
+ghost use Rattle.std.specs.Prelude.{◌≡◌, ◌++◌, OnOk, IfOk, List, ℕ, false};
+ghost use Rattle.fedrun_cli.specs.Endings.{status_of, line_reason_word, word_line, fault_line, numbered_line, error_line, needs_memory, Stands, Took};
+
+use fed_journal::page::Page;
+use fed_outside::Sink;
+use fed_schedule::script::LineReason;
+use std::alloc::{AllocError, Global};
+
+/// How a command ended.
+#[derive(Clone, Copy)]
+pub enum Ending {
+    Done,
+    Memory,
+    /// The words are none of a command.
+    Usage,
+    /// A line of the schedule is refused.
+    Line { line: u32, reason: LineReason },
+    /// The file could not be read.
+    ReadFault,
+    /// The output could not be written whole.
+    WriteFault,
+    /// The file is too long.
+    FileTooLong,
+    /// The run has over 64 places.
+    Places,
+    /// The event of that line would pass the journal's limit.
+    Entries { line: u32 },
+    /// There is no such file.
+    Absent,
+}
+
+/// The exit status.
+pub(crate) fn status_of(ending: Ending) -> u8
+    ensures { result ≡ status_of ending }
+{
+    match ending {
+        Ending::Done => 0,
+        Ending::Memory => 1,
+        Ending::Usage => 2,
+        Ending::Line { .. } => 4,
+        Ending::ReadFault => 5,
+        Ending::WriteFault => 6,
+        Ending::FileTooLong | Ending::Places | Ending::Entries { .. } => 7,
+        Ending::Absent => 8,
+    }
+}
+
+/// The word of a line's reason.
+#[tactic(auto, unfolding(crate::specs::Endings::line_reason_word))]
+fn push_line_reason(page: &mut Page, reason: LineReason) -> Result<(), AllocError>
+    ensures { OnOk result (page.new ≡ page.old ++ line_reason_word reason) }
+{
+    match reason {
+        LineReason::Text => page.push("text"),
+        LineReason::Word => page.push("word"),
+        LineReason::Order => page.push("order"),
+        LineReason::Count => page.push("count"),
+        LineReason::Escape => page.push("escape"),
+        LineReason::Number => page.push("number"),
+        LineReason::Name => page.push("name"),
+        LineReason::Twice => page.push("twice"),
+        LineReason::Option => page.push("option"),
+        LineReason::Value => page.push("value"),
+    }
+}
+
+/// Appends a line that ends with a word.
+fn push_word_line(page: &mut Page, start: &str, word: &str) -> Result<(), AllocError>
+    ensures { OnOk result (page.new ≡ page.old ++ word_line start.now word.now) }
+{
+    page.push(start)?;
+    page.push_word(word)?;
+    page.push("\n")
+}
+
+/// Appends the line of a schedule's fault.
+fn push_fault_line(page: &mut Page, start: &str, line: u32, reason: LineReason) -> Result<(), AllocError>
+    ensures { OnOk result (page.new ≡ page.old ++ fault_line start.now line reason) }
+{
+    page.push(start)?;
+    page.push_number(line as u64)?;
+    page.push(" ")?;
+    push_line_reason(page, reason)?;
+    page.push("\n")
+}
+
+/// Appends a line that ends with a number.
+fn push_numbered_line(page: &mut Page, start: &str, line: u32) -> Result<(), AllocError>
+    ensures { OnOk result (page.new ≡ page.old ++ numbered_line start.now line) }
+{
+    page.push(start)?;
+    page.push_number(line as u64)?;
+    page.push("\n")
+}
+
+/// Appends what an ending says on the error sink; nothing where it is `Done`.
+#[tactic(auto, unfolding(crate::specs::Endings::error_line))]
+fn push_error_line(page: &mut Page, ending: Ending, file: &str) -> Result<(), AllocError>
+    ensures { OnOk result (page.new ≡ page.old ++ error_line ending file.now) }
+{
+    match ending {
+        Ending::Done => Ok(()),
+        Ending::Memory => page.push("fedrun: memory\n"),
+        Ending::Usage => page.push("fedrun: usage\n"),
+        Ending::Line { line, reason } => push_fault_line(page, "fedrun: schedule line ", line, reason),
+        Ending::ReadFault => push_word_line(page, "fedrun: read fault ", file),
+        Ending::WriteFault => page.push("fedrun: write fault\n"),
+        Ending::FileTooLong => push_word_line(page, "fedrun: limit file ", file),
+        Ending::Places => page.push("fedrun: limit places\n"),
+        Ending::Entries { line } => push_numbered_line(page, "fedrun: limit entries line ", line),
+        Ending::Absent => push_word_line(page, "fedrun: absent ", file),
+    }
+}
+
+/// The line of an ending, in memory.
+fn line_page(alloc: Global, ending: Ending, file: &str) -> Result<Page, AllocError>
+    ensures { IfOk result (λ page. page ≡ error_line ending file.now) }
+{
+    let mut page = Page::new(alloc);
+    push_error_line(&mut page, ending, file)?;
+    Ok(page)
+}
+
+/// Whether an ending's line needs memory.
+fn needs_memory(ending: Ending) -> bool
+    ensures { result ≡ needs_memory ending }
+{
+    match ending {
+        Ending::Done | Ending::Memory | Ending::Usage | Ending::WriteFault => false,
+        _ => true,
+    }
+}
+
+/// The line of an ending that needs no memory.
+#[tactic(auto, unfolding(crate::specs::Endings::error_line))]
+fn fixed_line(ending: Ending) -> &'static [u8]
+    ensures { (file : List ℕ) → needs_memory ending ≡ false → result.now ≡ error_line ending file }
+{
+    match ending {
+        Ending::Memory => b"fedrun: memory\n",
+        Ending::Usage => b"fedrun: usage\n",
+        Ending::WriteFault => b"fedrun: write fault\n",
+        _ => b"",
+    }
+}
+
+/// Puts the line of an ending. Where memory is wanting for it, the ending becomes want of memory,
+/// whose line takes none.
+pub(crate) fn say<E: Sink>(alloc: Global, ending: Ending, file: &str, err: &mut E) -> Ending
+    ensures stands { Stands ending result }
+    ensures told { Took (E.told err.old) (E.told err.new) (E.faults err.old) (E.faults err.new) (error_line result file.now) }
+{
+    if needs_memory(ending) {
+        return match line_page(alloc, ending, file) {
+            Ok(page) => put(ending, page.as_str().as_bytes(), err),
+            Err(_) => put(Ending::Memory, fixed_line(Ending::Memory), err),
+        };
+    }
+    put(ending, fixed_line(ending), err)
+}
+
+/// Puts the line of an ending, which stays.
+fn put<E: Sink>(ending: Ending, line: &[u8], err: &mut E) -> Ending
+    ensures same { result ≡ ending }
+    ensures told { Took (E.told err.old) (E.told err.new) (E.faults err.old) (E.faults err.new) line.now }
+{
+    let _is_out = err.put(line);
+    ending
+}
