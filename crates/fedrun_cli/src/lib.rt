@@ -4,3 +4,4 @@
 pub mod command;
 pub mod ending;
 mod report;
+pub mod words;
