@@ -3,10 +3,9 @@
 
 use fed_outside::{FileShelf, MemDoor, Sink, StdSink};
 use fedrun_cli::words::fedrun;
-use std::env;
-use std::io;
 use std::process::ExitCode;
 use std::rt::Env;
+use std::{env, io};
 
 /// The words after the program's name.
 fn words_of(rt: &(impl Env + AllocGlobal)) -> io::Result<Vec<String>> {
@@ -27,5 +26,12 @@ fn main(rt: HostRuntime) -> ExitCode {
         err.put(b"fedrun: memory\n");
         return ExitCode::from(1);
     };
-    ExitCode::from(fedrun(alloc, words.as_slice(), &mut shelf, &mut out, &mut err, &mut door))
+    ExitCode::from(fedrun(
+        alloc,
+        words.as_slice(),
+        &mut shelf,
+        &mut out,
+        &mut err,
+        &mut door,
+    ))
 }

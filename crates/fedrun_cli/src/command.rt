@@ -10,7 +10,7 @@ use crate::report::{ReplayFault, report};
 use fed_journal::page::Page;
 use fed_outside::{Loaded, Shelf, Sink};
 use fed_schedule::schedule::read;
-use fed_schedule::script::{Script, ScheduleFault};
+use fed_schedule::script::{ScheduleFault, Script};
 use std::alloc::Global;
 
 /// The most octets of a schedule's file.
@@ -72,7 +72,12 @@ fn output_of(alloc: Global, bytes: &[u8]) -> Result<Page, Ending>
 }
 
 /// Runs the schedule and puts the output. Nothing is put unless the output is whole.
-fn run_schedule<F: Shelf, O: Sink>(alloc: Global, schedule: &str, shelf: &mut F, out: &mut O) -> Ending
+fn run_schedule<F: Shelf, O: Sink>(
+    alloc: Global,
+    schedule: &str,
+    shelf: &mut F,
+    out: &mut O,
+) -> Ending
     ensures { Explains (F.files shelf.old) schedule.now (F.faults shelf.old) (F.faults shelf.new) (O.told out.old) (O.told out.new) (O.faults out.old) (O.faults out.new) result }
 {
     let bytes = match load(alloc, schedule, shelf) {
@@ -105,12 +110,10 @@ pub fn run_command<F: Shelf, O: Sink, E: Sink>(
     requires bare { length brokers.now ≡ 0 }
     requires no_journal { journal ≡ false }
     requires no_wire { wire ≡ false }
-    ensures {
-      EndsRun schedule.now
+    ensures { EndsRun schedule.now
         (record { files = F.files shelf.old; read_faults = F.faults shelf.old; out_told = O.told out.old; out_faults = O.faults out.old; err_told = E.told err.old; err_faults = E.faults err.old })
         (record { files = F.files shelf.new; read_faults = F.faults shelf.new; out_told = O.told out.new; out_faults = O.faults out.new; err_told = E.told err.new; err_faults = E.faults err.new })
-        result
-    }
+        result }
 {
     let ending = run_schedule(alloc, schedule, shelf, out);
     let ending = say(alloc, ending, schedule, err);

@@ -75,7 +75,12 @@ fn push_word_line(page: &mut Page, start: &str, word: &str) -> Result<(), AllocE
 }
 
 /// Appends the line of a schedule's fault.
-fn push_fault_line(page: &mut Page, start: &str, line: u32, reason: LineReason) -> Result<(), AllocError>
+fn push_fault_line(
+    page: &mut Page,
+    start: &str,
+    line: u32,
+    reason: LineReason,
+) -> Result<(), AllocError>
     ensures { OnOk result (page.new ≡ page.old ++ fault_line start.now line reason) }
 {
     page.push(start)?;
@@ -103,7 +108,12 @@ fn push_error_line(page: &mut Page, ending: Ending, file: &str) -> Result<(), Al
         Ending::Done => Ok(()),
         Ending::Memory => page.push("fedrun: memory\n"),
         Ending::Usage => page.push("fedrun: usage\n"),
-        Ending::Line { line, reason } => push_fault_line(page, "fedrun: schedule line ", line, reason),
+        Ending::Line { line, reason } => push_fault_line(
+            page,
+            "fedrun: schedule line ",
+            line,
+            reason,
+        ),
         Ending::ReadFault => push_word_line(page, "fedrun: read fault ", file),
         Ending::WriteFault => page.push("fedrun: write fault\n"),
         Ending::FileTooLong => push_word_line(page, "fedrun: limit file ", file),

@@ -4,4 +4,6 @@
 pub mod command;
 pub mod ending;
 mod report;
+#[cfg(test)]
+mod tests;
 pub mod words;

@@ -57,7 +57,13 @@ fn push_show(alloc: Global, page: &mut Page, line: u32, world: &World) -> Result
 }
 
 /// Appends what an event that happened prints.
-fn push_shown(alloc: Global, page: &mut Page, line: u32, event: &Event, world: &World) -> Result<(), AllocError>
+fn push_shown(
+    alloc: Global,
+    page: &mut Page,
+    line: u32,
+    event: &Event,
+    world: &World,
+) -> Result<(), AllocError>
     ensures { OnOk result (page.new ≡ page.old ++ shown line world.now event.now) }
 {
     match event {
@@ -68,7 +74,13 @@ fn push_shown(alloc: Global, page: &mut Page, line: u32, event: &Event, world: &
 
 /// Does an event and appends what it prints. Answers 1 if it happened, else 0.
 #[tactic(auto, unfolding(crate::specs::Report::moment_text))]
-fn push_moment(alloc: Global, page: &mut Page, world: &mut World, line: u32, event: &Event) -> Result<usize, StepFault>
+fn push_moment(
+    alloc: Global,
+    page: &mut Page,
+    world: &mut World,
+    line: u32,
+    event: &Event,
+) -> Result<usize, StepFault>
     ensures page { OnOk result (page.new ≡ page.old ++ moment_text (moment world.old line event.now)) }
     ensures world { OnOk result (world.new ≡ after world.old (next world.old event.now)) }
     ensures done { IfOk result (λ done. done ≡ done_by (next world.old event.now)) }
@@ -101,7 +113,12 @@ impl From<AllocError> for ReplayFault {
 }
 
 /// Does the events in order and appends what they print. Answers how many happened.
-fn push_moments(alloc: Global, page: &mut Page, world: &mut World, events: &[(u32, Event)]) -> Result<usize, ReplayFault>
+fn push_moments(
+    alloc: Global,
+    page: &mut Page,
+    world: &mut World,
+    events: &[(u32, Event)],
+) -> Result<usize, ReplayFault>
     ensures page { OnOk result (page.new ≡ page.old ++ flat_map moment_text (run world.old events.now)) }
     ensures world { OnOk result (world.new ≡ last_journal world.old (run world.old events.now)) }
     ensures done { IfOk result (λ done. done ≡ sum_by done_at (run world.old events.now)) }
@@ -120,7 +137,12 @@ fn push_moments(alloc: Global, page: &mut Page, world: &mut World, events: &[(u3
 
 /// Appends the summary.
 #[tactic(auto, unfolding(crate::specs::Report::summary_line))]
-fn push_summary(page: &mut Page, events: usize, done: usize, entries: usize) -> Result<(), AllocError>
+fn push_summary(
+    page: &mut Page,
+    events: usize,
+    done: usize,
+    entries: usize,
+) -> Result<(), AllocError>
     requires { done ≤ events }
     ensures { OnOk result (page.new ≡ page.old ++ summary_line events done entries) }
 {
@@ -137,7 +159,11 @@ fn push_summary(page: &mut Page, events: usize, done: usize, entries: usize) -> 
 
 /// The whole output of a run of these bare brokers.
 #[tactic(auto, unfolding(crate::specs::Report::report))]
-pub(crate) fn report(alloc: Global, brokers: &[Text], events: &[(u32, Event)]) -> Result<Page, ReplayFault>
+pub(crate) fn report(
+    alloc: Global,
+    brokers: &[Text],
+    events: &[(u32, Event)],
+) -> Result<Page, ReplayFault>
     requires { length brokers.now ≤ 64 }
     ensures { IfOk result (λ page. page ≡ report (begin brokers.now) events.now) }
 {

@@ -64,12 +64,10 @@ pub fn fedrun<F: Shelf, O: Sink, E: Sink, D: Door>(
     err: &mut E,
     door: &mut D,
 ) -> u8
-    ensures ends {
-      EndsAsked (schedule_asked (map string_bytes words.now))
+    ensures ends { EndsAsked (schedule_asked (map string_bytes words.now))
         (record { files = F.files shelf.old; read_faults = F.faults shelf.old; out_told = O.told out.old; out_faults = O.faults out.old; err_told = E.told err.old; err_faults = E.faults err.old })
         (record { files = F.files shelf.new; read_faults = F.faults shelf.new; out_told = O.told out.new; out_faults = O.faults out.new; err_told = E.told err.new; err_faults = E.faults err.new })
-        result
-    }
+        result }
     ensures door { door.new ≡ door.old }
 {
     match schedule_asked(words) {

@@ -10,5 +10,5 @@ invariant-loop-line l = record {
   page : l.page ++ flat_map moment_text (run l.world (drop l.line-index l.events)) ≡ l.fn.page ++ flat_map moment_text (run l.fn.world l.events);
   world : last_journal l.world (run l.world (drop l.line-index l.events)) ≡ last_journal l.fn.world (run l.fn.world l.events);
   done : l.done + sum_by done_at (run l.world (drop l.line-index l.events)) ≡ sum_by done_at (run l.fn.world l.events);
-  within : l.done ≤ l.line-index
+  within : l.done ≤ l.line-index;
 }
