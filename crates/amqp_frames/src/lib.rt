@@ -1,0 +1,14 @@
+//! AMQP 0-9-1 frames: a stream of octets in any pieces, cut into frames, and frames written.
+#![tactic(auto)]
+
+mod cut;
+mod fault;
+mod frame;
+mod next;
+mod splitter;
+mod stage;
+
+pub use fault::FrameFault;
+pub use frame::{FRAME_END, Frame, MAX_PAYLOAD, write_frame};
+pub use splitter::{PROTOCOL_HEADER, Splitter};
+pub use stage::Stage;
