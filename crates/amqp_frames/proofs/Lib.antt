@@ -1,2 +1,3 @@
 pub mod NextLemmas
 pub mod CutLemmas
+pub mod StreamLemmas

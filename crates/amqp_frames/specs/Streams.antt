@@ -1,5 +1,5 @@
 -- Streams of frames: AMQP 0-9-1, sections 2.3.5, 4.2.2 ("Protocol Header") and 4.2.3.
-use Rattle.std.specs.Prelude.{◌≡◌, ◌≢◌, ℕ, ◌^◌, ◌<◌, Bool, true, false, List, [], ◌∷◌, ◌++◌, length, take, min, nat_lt, Result, Ok, Err}
+use Rattle.std.specs.Prelude.{◌≡◌, ◌≢◌, ℕ, ◌-◌, ◌^◌, ◌<◌, Bool, true, false, List, [], ◌∷◌, ◌++◌, length, take, min, nat_lt, Result, Ok, Err}
 use Rattle.std.specs.List.{flat_map, AllByRecursion}
 use Rattle.byteorder.specs.Endian.{big_bytes}
 use Rattle.amqp_frames.specs.declared.frame.Frame.{Frame}
@@ -35,6 +35,10 @@ pub record IsStream (asked : Bool) (frames : List Frame) (rest : List ℕ) (text
 -- as far as it goes, the text is the protocol header (section 4.2.2)
 abbrev pub AgreesWithHeader : List ℕ → Type 0
 AgreesWithHeader text = take 8 text ≡ take (length text) protocol_header
+
+-- how many octets of a piece belong to the protocol header, of which so many came before (section 4.2.2)
+abbrev pub header_count : ℕ → List ℕ → ℕ
+header_count came piece = min (length piece) (8 - came)
 
 -- the type, channel and size of a frame that announces so large a payload, whatever follows (section 4.2.3)
 pub record Announces (size : ℕ) (rest : List ℕ) : Type 0 where

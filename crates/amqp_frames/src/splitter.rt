@@ -1,8 +1,8 @@
-ghost use Rattle.std.specs.Prelude.{◌≡◌, ◌+◌, ◌<◌, ◌++◌, List, [], IsTrue, Ok, Err, MatchOption};
+ghost use Rattle.std.specs.Prelude.{◌≡◌, ◌+◌, ◌<◌, ◌++◌, List, [], IsTrue, Ok, Err, MatchOption, IfSome, IfNone, take, drop};
 ghost use Rattle.amqp_frames.specs.declared.frame.Frame.{Frame};
 ghost use Rattle.amqp_frames.specs.declared.stage.Stage.TheVariants as stage;
 ghost use Rattle.amqp_frames.specs.Frames.{IsUnfinished};
-ghost use Rattle.amqp_frames.specs.Streams.{HasRead, Fed};
+ghost use Rattle.amqp_frames.specs.Streams.{protocol_header, header_count, HasRead, Fed};
 
 use crate::cut::{Reached, append_frames};
 use crate::fault::FrameFault;
@@ -43,6 +43,24 @@ fn is_part(octets: &[u8], at: u64) -> bool
         Next::Part => true,
         Next::Whole(_) => false,
         Next::Fault(_) => false,
+    }
+}
+
+/// How many octets of the piece belong to the protocol header, of which so many came before; `None` where they differ
+/// from it.
+fn header_octets(piece: &[u8], came: usize) -> Option<usize>
+    requires { came < 8 }
+    ensures count { IfSome result (λ count. count ≡ header_count came piece.now) }
+    ensures some { IfSome result (λ count. take count piece.now ≡ take count (drop came protocol_header)) }
+    ensures none { IfNone result (take (header_count came piece.now) piece.now
+        ≡ take (header_count came piece.now) (drop came protocol_header) → ⊥) }
+{
+    let wanted = &PROTOCOL_HEADER[came..];
+    let count = piece.len().min(wanted.len());
+    if &piece[..count] == &wanted[..count] {
+        Some(count)
+    } else {
+        None
     }
 }
 
@@ -90,19 +108,20 @@ impl Splitter {
         ensures { (found : List Frame) × (frames.new.items ≡ frames.old.items ++ found)
             × Fed self.old self.new piece.now found result }
     {
-        let wanted = &PROTOCOL_HEADER[came..];
-        let (front, behind) = piece.split_at(piece.len().min(wanted.len()));
-        if front != &wanted[..front.len()] {
-            self.fail(0);
-            return Err(FrameFault::BadHeader { at: 0 });
-        }
-        if front.len() < wanted.len() {
+        let count = match header_octets(piece, came) {
+            Some(count) => count,
+            None => {
+                self.fail(0);
+                return Err(FrameFault::BadHeader { at: 0 });
+            }
+        };
+        if came + count < PROTOCOL_HEADER.len() {
             self.stage = Stage::Header {
-                came: came + front.len(),
+                came: came + count,
             };
             return Ok(());
         }
-        match append_frames(self.alloc, behind, 8, frames) {
+        match append_frames(self.alloc, &piece[count..], 8, frames) {
             Ok(reached) => self.settle(reached),
             Err(AllocError) => Err(FrameFault::Memory),
         }
@@ -131,7 +150,7 @@ impl Splitter {
     /// Goes to where some frames end, and tells what is wrong there.
     fn settle(&mut self, reached: Reached) -> Result<(), FrameFault>
         ensures { MatchOption reached.fault
-            ((result ≡ Ok ()) × (self.new ≡ record { stage = stage.Frames; at = reached.at; held = reached.rest.items }))
+            ((result ≡ Ok tt) × (self.new ≡ record { stage = stage.Frames; at = reached.at; held = reached.rest.items }))
             (λ fault. (result ≡ Err fault) × (self.new ≡ record { stage = stage.Failed; at = reached.at; held = [] })) }
     {
         match reached.fault {
