@@ -35,10 +35,10 @@ spells_more octets frames used head s b =
     let behind = drop (head.size + 8) (drop used octets) in
     let long : head.size + 8 ≤ length (drop used octets) = b.within in
     let all : length (drop used octets) ≡ length (frame_spelling frame) + length behind =
-        ap (λ (t : List ℕ). length t) b.spelled ∙ length-append (frame_spelling frame) behind in
+    ap (λ (t : List ℕ). length t) b.spelled ∙ length-append (frame_spelling frame) behind in
     let width : length (frame_spelling frame) ≡ head.size + 8 = omega (arith, length-drop (head.size + 8) (drop used octets)) in
     let this : take (head.size + 8) (drop used octets) ≡ frame_spelling frame =
-        ap (λ (t : List ℕ). take (head.size + 8) t) b.spelled ∙ take_at (frame_spelling frame) behind (head.size + 8) width in
+    ap (λ (t : List ℕ). take (head.size + 8) t) b.spelled ∙ take_at (frame_spelling frame) behind (head.size + 8) width in
     record {
       within = omega (arith, length-drop used octets);
       each = each_append frames (frame ∷ []) s.each (b.is_frame, tt);
@@ -58,7 +58,7 @@ pub advances : (place : ℕ) (octets : List ℕ) (frames : List Frame) (used : �
     → Advances place octets frames rest behind fault
 advances place octets frames used fault rest behind cut rest-is behind-is =
     let width : length (flat_map frame_spelling frames) ≡ used =
-        sym (ap (λ (t : List ℕ). length t) cut.spelled) ∙ length-take-le used octets cut.within in
+    sym (ap (λ (t : List ℕ). length t) cut.spelled) ∙ length-take-le used octets cut.within in
     record {
       each = cut.each;
       spelled = sym (take-append-drop used octets) ∙ cc (cut.spelled, rest-is);

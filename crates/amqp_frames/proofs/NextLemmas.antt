@@ -59,7 +59,7 @@ unended_front head octets h kind channel size long =
     let here : 7 + head.size ≡ head.size + 7 = omega arith in
     let after : suc (7 + head.size) ≡ head.size + 8 = omega arith in
     let end : drop head.size (drop 7 octets) ≡ get_or octets (7 + head.size) 0 ∷ drop (suc (7 + head.size)) octets =
-        drop-drop head.size 7 octets ∙ drop-cons octets (7 + head.size) 0 (omega arith) in
+    drop-drop head.size 7 octets ∙ drop-cons octets (7 + head.size) 0 (omega arith) in
     let fields = front octets h seven in
     cc
 
@@ -67,21 +67,21 @@ unended_front head octets h kind channel size long =
 pub announces : (octets : List ℕ) (size : ℕ) → AreOctets octets → 7 ≤ length octets → is_kind (get_or octets 0 0) ≡ true → size ≡ big_number 4 (drop 3 octets)
     → Announces size octets
 announces octets size h long kind is = record {
-    kind = get_or octets 0 0;
-    channel = big_number 2 (drop 1 octets);
-    more = drop 7 octets;
-    is_kind = kind;
-    fits = let below = big_from-lt 0 4 (drop 3 octets) (λ k. rw get_or-drop (h (3 + k))) in omega arith;
-    spelled = rw is (front octets h long);
-  }
+  kind = get_or octets 0 0;
+  channel = big_number 2 (drop 1 octets);
+  more = drop 7 octets;
+  is_kind = kind;
+  fits = let below = big_from-lt 0 4 (drop 3 octets) (λ k. rw get_or-drop (h (3 + k))) in omega arith;
+  spelled = rw is (front octets h long);
+}
 
 is_frame_of : (head : Head) (octets : List ℕ) → head.kind ≡ get_or octets 0 0 → is_kind (get_or octets 0 0) ≡ true
     → length (take head.size (drop 7 octets)) ≡ head.size → head.size ≤ 131064 → head.channel < 2 ^ 16 → IsFrame (frame_of head octets)
 is_frame_of head octets kind known payload small channel = record {
-    kind = rw (kind, known) refl;
-    channel = channel;
-    size = rw payload small;
-  }
+  kind = rw (kind, known) refl;
+  channel = channel;
+  size = rw payload small;
+}
 
 -- the whole frame, where its last octet is the frame-end
 pub begins : (head : Head) (octets : List ℕ) → AreOctets octets → head.kind ≡ get_or octets 0 0

@@ -34,13 +34,13 @@ pub stream_on : (asked : Bool) (read : List Frame) (held text piece : List ℕ) 
 stream_on asked read held text piece found rest at behind fault s at-is a =
     let both = octets_both asked read found in
     let all : text ++ piece ≡ octets_of asked (read ++ found) ++ rest =
-        ap (λ (t : List ℕ). t ++ piece) s.whole
-        ∙ append_assoc (octets_of asked read) held piece
-        ∙ ap (λ (t : List ℕ). octets_of asked read ++ t) a.spelled
-        ∙ sym (append_assoc (octets_of asked read) (flat_map frame_spelling found) rest)
-        ∙ ap (λ (t : List ℕ). t ++ rest) (sym both) in
+    ap (λ (t : List ℕ). t ++ piece) s.whole
+    ∙ append_assoc (octets_of asked read) held piece
+    ∙ ap (λ (t : List ℕ). octets_of asked read ++ t) a.spelled
+    ∙ sym (append_assoc (octets_of asked read) (flat_map frame_spelling found) rest)
+    ∙ ap (λ (t : List ℕ). t ++ rest) (sym both) in
     let width : length (octets_of asked (read ++ found)) ≡ length (octets_of asked read) + length (flat_map frame_spelling found) =
-        ap (λ (t : List ℕ). length t) both ∙ length-append (octets_of asked read) (flat_map frame_spelling found) in
+    ap (λ (t : List ℕ). length t) both ∙ length-append (octets_of asked read) (flat_map frame_spelling found) in
     (record { whole = all; each = each_append read found s.each a.each }, offset_on (length (octets_of asked read)) _ _ at behind at-is a.offset width)
 
 -- the fault names the place where it stands
@@ -64,44 +64,52 @@ fault_there asked text frames rest Memory s h = absurd h
 
 stream_longer : (asked : Bool) (frames : List Frame) (rest text piece : List ℕ) → IsStream asked frames rest text → IsStream asked frames (rest ++ piece) (text ++ piece)
 stream_longer asked frames rest text piece s = record {
-    whole = ap (λ (t : List ℕ). t ++ piece) s.whole ∙ append_assoc (octets_of asked frames) rest piece;
-    each = s.each;
-  }
+  whole = ap (λ (t : List ℕ). t ++ piece) s.whole ∙ append_assoc (octets_of asked frames) rest piece;
+  each = s.each;
+}
 
 -- the header still agrees without the last piece
 agrees_less : (text piece : List ℕ) → AgreesWithHeader (text ++ piece) → AgreesWithHeader text
 agrees_less text piece h =
     let cut : take (length text) (take 8 (text ++ piece)) ≡ take (length text) (take (length (text ++ piece)) protocol_header) =
-        ap (λ (t : List ℕ). take (length text) t) h in
+    ap (λ (t : List ℕ). take (length text) t) h in
     let all : take (length text) (take (length (text ++ piece)) protocol_header) ≡ take (length text) protocol_header =
-        take-take (length text) (length (text ++ piece)) protocol_header (omega (arith, length-append text piece)) in
+    take-take (length text) (length (text ++ piece)) protocol_header (omega (arith, length-append text piece)) in
     let front : take 8 text ≡ take (length text) (take 8 (text ++ piece)) =
-        elim (cases_lt 8 (length text)) [
-          | inl long ↦ sym (take_all (length text) (take 8 (text ++ piece)) (omega (arith, length-take 8 (text ++ piece))) ∙ take-append-le 8 text piece (omega arith))
-          | inr short ↦ take_all 8 text short ∙ sym (take-take (length text) 8 (text ++ piece) short ∙ take_at text piece (length text) refl)
-        ] in
+    elim (cases_lt 8 (length text)) [
+      | inl long ↦ sym (take_all (length text) (take 8 (text ++ piece)) (omega (arith, length-take 8 (text ++ piece))) ∙ take-append-le 8 text piece (omega arith))
+      | inr short ↦ take_all 8 text short ∙ sym (take-take (length text) 8 (text ++ piece) short ∙ take_at text piece (length text) refl)
+    ] in
     front ∙ cut ∙ all
 
 announces_longer : (size : ℕ) (rest piece : List ℕ) → Announces size rest → Announces size (rest ++ piece)
 announces_longer size rest piece a = record {
-    kind = a.kind; channel = a.channel; more = a.more ++ piece; is_kind = a.is_kind; fits = a.fits;
-    spelled = ap (λ (t : List ℕ). t ++ piece) a.spelled;
-  }
+  kind = a.kind;
+  channel = a.channel;
+  more = a.more ++ piece;
+  is_kind = a.is_kind;
+  fits = a.fits;
+  spelled = ap (λ (t : List ℕ). t ++ piece) a.spelled;
+}
 
 ends_longer : (octet : ℕ) (rest piece : List ℕ) → EndsIn octet rest → EndsIn octet (rest ++ piece)
 ends_longer octet rest piece a = record {
-    frame = a.frame; is_frame = a.is_frame; more = a.more ++ piece;
-    spelled = ap (λ (t : List ℕ). t ++ piece) a.spelled ∙ append_assoc (unended a.frame) (octet ∷ a.more) piece;
-  }
+  frame = a.frame;
+  is_frame = a.is_frame;
+  more = a.more ++ piece;
+  spelled = ap (λ (t : List ℕ). t ++ piece) a.spelled ∙ append_assoc (unended a.frame) (octet ∷ a.more) piece;
+}
 
 -- a fault stays, whatever follows
 pub fault_stays : (asked : Bool) (text piece : List ℕ) (frames : List Frame) (fault : FrameFault) → HasFault asked text frames fault
     → HasFault asked (text ++ piece) frames fault
 fault_stays asked text piece frames (BadHeader at) h = (h.0, h.1, h.2, λ agrees. h.3 (agrees_less text piece agrees))
 fault_stays asked text piece frames (BadKind at octet) h =
-    let f = h.2 in
-    (h.0 ++ piece, stream_longer asked frames h.0 text piece h.1,
-     (f.0, f.1, f.2 ++ piece, ap (λ (t : List ℕ). t ++ piece) f.3))
+    let f = h.2 in (
+      h.0 ++ piece,
+      stream_longer asked frames h.0 text piece h.1,
+      (f.0, f.1, f.2 ++ piece, ap (λ (t : List ℕ). t ++ piece) f.3),
+    )
 fault_stays asked text piece frames (TooLarge at size) h =
     let f = h.2 in
     (h.0 ++ piece, stream_longer asked frames h.0 text piece h.1, (f.0, f.1, announces_longer size h.0 piece f.2))
@@ -132,7 +140,7 @@ Reaches old piece found rest behind = (asked : Bool) (text : List ℕ) (read : L
 pub settled : (old new : Progress) (piece : List ℕ) (found : List Frame) (rest : List ℕ) (behind : ℕ) (fault : Option FrameFault)
     (result : Result (Unit {0}) FrameFault) → (old.stage ≢ stage.Failed) → Reaches old piece found rest behind → IsEnd behind rest fault
     → MatchOption fault ((result ≡ Ok tt) × (new ≡ record { stage = stage.Frames; at = behind; held = rest }))
-        (λ f. (result ≡ Err f) × (new ≡ record { stage = stage.Failed; at = behind; held = [] }))
+    (λ f. (result ≡ Err f) × (new ≡ record { stage = stage.Failed; at = behind; held = [] }))
     → Fed old new piece found result
 settled old new piece found rest behind None result live reaches end now =
     let P : Result (Unit {0}) FrameFault → Type 0 = λ r. Fed old new piece found r in
@@ -143,9 +151,9 @@ settled old new piece found rest behind (Some fault) result live reaches end now
     let at-is = offset_is behind rest fault end in
     let made : ℕ → Progress = λ n. record { stage = stage.Failed; at = n; held = [] } in
     subst P (sym now.0) (fed_fault old new piece found behind rest fault end
-      (λ asked text read h. let r = reaches asked text read h in
-        fault_there asked (text ++ piece) (read ++ found) rest fault r.0 (subst (λ (place : ℕ). IsFault place rest fault) r.1 end))
-      live (now.1 ∙ ap made (sym at-is)))
+    (λ asked text read h. let r = reaches asked text read h in
+    fault_there asked (text ++ piece) (read ++ found) rest fault r.0 (subst (λ (place : ℕ). IsFault place rest fault) r.1 end))
+    live (now.1 ∙ ap made (sym at-is)))
 
 -- frames follow frames
 pub frames_on : (old : Progress) (piece : List ℕ) (found : List Frame) (rest : List ℕ) (behind : ℕ) (fault : Option FrameFault) → old.stage ≡ stage.Frames
@@ -194,11 +202,11 @@ agrees_behind came text piece began text-is agrees =
     let long : length (text ++ piece) ≡ came + length piece = omega (arith, length-append text piece) in
     let left : take (came + n) (take 8 (text ++ piece)) ≡ take (came + n) (text ++ piece) = take-take (came + n) 8 (text ++ piece) (omega arith) in
     let right : take (came + n) (take (length (text ++ piece)) protocol_header) ≡ take (came + n) protocol_header =
-        take-take (came + n) (length (text ++ piece)) protocol_header (omega arith) in
+    take-take (came + n) (length (text ++ piece)) protocol_header (omega arith) in
     let both : take (came + n) (text ++ piece) ≡ take (came + n) protocol_header =
-        sym left ∙ ap (λ (t : List ℕ). take (came + n) t) agrees ∙ right in
+    sym left ∙ ap (λ (t : List ℕ). take (came + n) t) agrees ∙ right in
     let behind : take n (drop came (text ++ piece)) ≡ take n (drop came protocol_header) =
-        sym (drop-take came n (text ++ piece)) ∙ ap (λ (t : List ℕ). drop came t) both ∙ drop-take came n protocol_header in
+    sym (drop-take came n (text ++ piece)) ∙ ap (λ (t : List ℕ). drop came t) both ∙ drop-take came n protocol_header in
     ap (λ (t : List ℕ). take n t) (sym (drop_at text piece came width)) ∙ behind
 
 -- the header goes on
@@ -210,8 +218,8 @@ header_more old came count at piece held is counted agrees short at-is held-is a
     let all : length piece ≡ count = omega arith in
     let none : drop count piece ≡ [] = rw (← all) (drop_all (length piece) piece (omega arith)) in
     let text-is : text ++ piece ≡ take (came + count) protocol_header =
-        joined came count text piece now.2 agrees ∙ ap (λ (x : List ℕ). take (came + count) protocol_header ++ x) none
-        ∙ append-nil (take (came + count) protocol_header) in
+    joined came count text piece now.2 agrees ∙ ap (λ (x : List ℕ). take (came + count) protocol_header ++ x) none
+    ∙ append-nil (take (came + count) protocol_header) in
     (now.0, short, text-is, append-nil read ∙ now.3, at-is ∙ now.4, held-is ∙ now.5)
 
 -- the header is whole
@@ -222,7 +230,7 @@ header_on old came count piece found rest behind fault is began counted agrees w
     let now = in_header old came asked text read is h in
     let eight : came + count ≡ 8 = omega arith in
     let text-is : text ++ piece ≡ protocol_header ++ drop count piece =
-        joined came count text piece now.2 agrees ∙ ap (λ (n : ℕ). take n protocol_header ++ drop count piece) eight in
+    joined came count text piece now.2 agrees ∙ ap (λ (n : ℕ). take n protocol_header ++ drop count piece) eight in
     let start : IsStream true [] [] protocol_header = record { whole = refl; each = tt } in
     rw (now.0, now.3, text-is) (stream_on true [] [] protocol_header (drop count piece) found rest 8 behind fault start refl a)
 

@@ -116,9 +116,7 @@ impl Splitter {
             }
         };
         if came + count < PROTOCOL_HEADER.len() {
-            self.stage = Stage::Header {
-                came: came + count,
-            };
+            self.stage = Stage::Header { came: came + count };
             return Ok(());
         }
         match append_frames(self.alloc, &piece[count..], 8, frames) {

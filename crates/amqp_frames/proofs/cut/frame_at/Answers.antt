@@ -10,6 +10,6 @@ returns c =
     let size = c.args.head.size in
     let width : used + 7 + size - (used + 7) ≡ size = omega arith in
     let payload : c.in_ok-payload.payload ≡ take size (drop 7 (drop used block)) =
-        c.in_ok-payload.ensures.ok ∙ rw (width, drop-drop 7 used block) refl in
+    c.in_ok-payload.ensures.ok ∙ rw (width, drop-drop 7 used block) refl in
     let made : List ℕ → Frame = λ p. record { kind = c.args.head.kind; channel = c.args.head.channel; payload = p } in
     ap made payload

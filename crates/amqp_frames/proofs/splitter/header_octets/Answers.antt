@@ -28,4 +28,4 @@ returns-else-eq-clause-none c =
     let count = counted came n piece c.min-count.ensures in
     let P : ℕ → Type 0 = λ k. take k piece ≡ take k (drop came protocol_header) in
     λ same. other_text (take n piece) (take n (take (8 - came) (drop came protocol_header))) (sym c.if-eq.false ∙ c.eq.ensures)
-        (subst P (sym count) same ∙ sym (wanted came n piece count))
+    (subst P (sym count) same ∙ sym (wanted came n piece count))
