@@ -1,9 +1,8 @@
 -- The octets of a frame, read field by field, are those of the frame's spelling.
-use Rattle.std.proofs.Common.{◌≡◌, ◌≢◌, ℕ, zero, suc, ◌+◌, ◌-◌, ◌<◌, ◌≤◌, ◌^◌, true, IsTrue, List, [], ◌∷◌, ◌++◌, length, get_or, take, drop, refl, sym, ap, ◌∙◌, append_assoc, add-one, arith, drop-cons}
+use Rattle.std.proofs.Common.{◌≡◌, ℕ, zero, suc, ◌+◌, ◌<◌, ◌≤◌, ◌^◌, true, List, [], ◌∷◌, ◌++◌, length, get_or, take, drop, refl, sym, ◌∙◌, append_assoc, arith, drop-cons}
 use Rattle.std.proofs.lemmas.List.{get_or-drop}
-use Rattle.std.proofs.lemmas.List.{take-append-drop, length-take, length-drop, length-append, drop-drop}
+use Rattle.std.proofs.lemmas.List.{take-append-drop, length-take, length-drop, drop-drop}
 use Rattle.std.proofs.lemmas.Nat.{be_bytes_2, be_bytes_4}
-use Rattle.std.specs.Prelude.{slice_index}
 use Rattle.byteorder.specs.Endian.{big_bytes, big_number}
 use Rattle.byteorder.specs.Numbers.{big_from-lt}
 use Rattle.amqp_frames.specs.declared.next.Head.{Head}

@@ -1,15 +1,15 @@
 -- A stream goes on: what a splitter has read, with the next piece.
-use Rattle.std.proofs.Common.{◌≡◌, ◌≢◌, ℕ, ◌+◌, ◌-◌, ◌<◌, ◌≤◌, Bool, true, false, List, [], ◌∷◌, ◌++◌, length, take, drop, min, Option, Some, None, Result, Ok, Err, refl, sym, ap, subst, ◌∙◌, append_assoc, arith, inl, inr}
+use Rattle.std.proofs.Common.{◌≡◌, ◌≢◌, ℕ, ◌+◌, ◌<◌, ◌≤◌, Bool, true, List, [], ◌∷◌, ◌++◌, length, take, drop, min, Option, Some, None, Result, Ok, Err, refl, sym, ap, subst, ◌∙◌, append_assoc, arith, inl, inr}
 use Rattle.std.proofs.lemmas.List.{take-append-drop, take-append-le, take-take, take_all, drop-take, length-take, length-append, append-nil, drop_at, drop_all, take_at, length-take-le}
 use Rattle.std.proofs.lemmas.Bool.{cases_lt}
 use Rattle.std.specs.Prelude.{MatchOption}
-use Rattle.std.specs.List.{flat_map, AllByRecursion}
+use Rattle.std.specs.List.{flat_map}
 use Rattle.amqp_frames.specs.declared.frame.Frame.{Frame}
 use Rattle.amqp_frames.specs.declared.fault.FrameFault.{FrameFault}
 use Rattle.amqp_frames.specs.declared.fault.FrameFault.TheVariants.{BadHeader, BadKind, TooLarge, BadEnd, Failed, Memory}
 use Rattle.amqp_frames.specs.declared.stage.Stage.{Stage}
 use Rattle.amqp_frames.specs.declared.stage.Stage.TheVariants as stage
-use Rattle.amqp_frames.specs.Frames.{IsFrame, frame_spelling, IsUnfinished, unended}
+use Rattle.amqp_frames.specs.Frames.{frame_spelling, unended}
 use Rattle.amqp_frames.specs.Streams
 use Rattle.amqp_frames.specs.Streams.{protocol_header, header_count, octets_of, offset_behind, IsStream, AgreesWithHeader, Announces, EndsIn, IsFault, HasFault, offset_of, Progress, ReadAt, HasRead, ReadsOn, Faults, Fed}
 use Rattle.amqp_frames.specs.Cuts.{IsEnd, Advances}

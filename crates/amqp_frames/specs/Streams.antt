@@ -1,5 +1,5 @@
 -- Streams of frames: AMQP 0-9-1, sections 2.3.5, 4.2.2 ("Protocol Header") and 4.2.3.
-use Rattle.std.specs.Prelude.{◌≡◌, ◌≢◌, ℕ, ◌-◌, ◌^◌, ◌<◌, Bool, true, false, List, [], ◌∷◌, ◌++◌, length, take, min, nat_lt, Result, Ok, Err}
+use Rattle.std.specs.Prelude.{◌≡◌, ◌≢◌, ℕ, ◌-◌, ◌^◌, ◌<◌, Bool, true, false, List, [], ◌∷◌, ◌++◌, length, take, min, nat_lt, Result, Ok, Err, ◌⊎◌}
 use Rattle.std.specs.List.{flat_map, AllByRecursion}
 use Rattle.byteorder.specs.Endian.{big_bytes}
 use Rattle.amqp_frames.specs.declared.frame.Frame.{Frame}
@@ -65,6 +65,10 @@ IsFault place rest (TooLarge at size) = (at ≡ place) × (MAX_PAYLOAD < size) �
 IsFault place rest (BadEnd at octet) = (at ≡ place) × (octet ≢ FRAME_END) × EndsIn octet rest
 IsFault place rest (Failed at) = ⊥
 IsFault place rest Memory = ⊥
+
+-- what may stand behind the frames of a stream: a first part of a frame, or a fault (section 4.2.3)
+abbrev pub Stops : List ℕ → Type 0
+Stops rest = IsUnfinished rest ⊎ ((place : ℕ) × (fault : FrameFault) × IsFault place rest fault)
 
 -- The fault of a stream, and the frames before it (sections 4.2.2 and 4.2.3).
 abbrev pub HasFault : Bool → List ℕ → List Frame → FrameFault → Type 0

@@ -1,6 +1,9 @@
 //! Frames by the general frame format of AMQP 0-9-1, section 4.2.3, spelled by hand.
 
-use crate::{Frame, FrameFault, Splitter, write_frame};
+use crate::{
+    Frame, FrameFault, Splitter, faults_are_one, frames_are_one, parts_are_short,
+    parts_have_no_fault, write_frame,
+};
 use bytes::Bytes;
 use std::alloc::Global;
 use std::process::Abort;
@@ -180,4 +183,12 @@ fn written(rt: HostRuntime) -> Result<(), Fail> {
     write_frame(&heartbeat, &mut out)?;
     assert_eq!(rt; out.as_slice(), STREAM);
     Ok(())
+}
+
+#[test]
+fn laws() {
+    frames_are_one();
+    faults_are_one();
+    parts_have_no_fault();
+    parts_are_short();
 }

@@ -1,4 +1,4 @@
-use Rattle.std.proofs.Common.{◌≡◌, ◌++◌, ℕ, List, ap, ◌∙◌}
+use Rattle.std.proofs.Common.{◌≡◌, ◌++◌, ap, ◌∙◌}
 use Rattle.amqp_frames.specs.Streams.{Progress}
 use Rattle.amqp_frames.proofs.StreamLemmas.{settled, frames_on, advances_same, live_frames}
 use Rattle.amqp_frames.proofs.splitter.Splitter.feed_frames.Goals as goal

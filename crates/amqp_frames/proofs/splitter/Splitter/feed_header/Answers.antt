@@ -1,4 +1,4 @@
-use Rattle.std.proofs.Common.{◌≡◌, ◌++◌, ◌+◌, ◌-◌, length, ℕ, List, [], refl, take, ap, sym, ◌∙◌, drop, arith}
+use Rattle.std.proofs.Common.{◌≡◌, ◌+◌, ◌-◌, length, [], refl, take, ap, sym, drop}
 use Rattle.std.proofs.lemmas.List.{append-nil}
 use Rattle.amqp_frames.specs.Streams.{Progress}
 use Rattle.amqp_frames.specs.declared.stage.Stage.TheVariants as stage
