@@ -1,0 +1,4 @@
+pub mod NextLemmas
+pub mod CutLemmas
+pub mod StreamLemmas
+pub mod LawLemmas
