@@ -1,0 +1,19 @@
+//! AMQP field tables, read and written.
+#![tactic(auto)]
+
+mod clone;
+mod fault;
+mod kind;
+mod laws;
+mod reading;
+mod value;
+mod writing;
+
+pub use fault::TableFault;
+pub use laws::{tables_are_apart, values_are_apart};
+pub use reading::read_table;
+pub use value::{FieldValue, Table};
+pub use writing::write_table;
+
+#[cfg(test)]
+mod tests;
