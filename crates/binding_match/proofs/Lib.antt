@@ -1,0 +1,2 @@
+pub mod TopicLemmas
+pub mod WalkLemmas
