@@ -1,20 +1,13 @@
 -- How the words of a pattern cover those of a key, and what a walk keeps.
-use Rattle.std.proofs.Common.{◌≡◌, ◌⊎◌, inl, inr, ℕ, suc, ◌+◌, ◌≤◌, ◌<◌, ◌↔◌, Bool, true, false, cond, IsTrue, ◌||◌, ◌&&◌, nat_lt, List, [], ◌∷◌, ◌++◌, length, take, drop, Option, Some, None, refl, sym, ap, subst, ◌∙◌, arith, rules}
+use Rattle.std.proofs.Common.{◌≡◌, inl, inr, ℕ, suc, ◌+◌, ◌≤◌, ◌<◌, Bool, true, false, cond, ◌||◌, ◌&&◌, nat_lt, List, [], ◌∷◌, ◌++◌, length, take, drop, Some, None, refl, sym, ap, subst, ◌∙◌, arith, rules}
 use Rattle.std.specs.List.{slice_split, position_or_len, position}
 use Rattle.std.specs.Str.{bytes_eq}
 use Rattle.std.proofs.lemmas.List.Splits.{slice_split_first, slice_split_none}
 use Rattle.std.proofs.lemmas.List.Elements.{All-from_get_or}
 use Rattle.std.proofs.lemmas.List.Sums.{fails_before_first}
 use Rattle.std.proofs.lemmas.Slice.Eq.{bytes_eq-Decides}
+use Rattle.binding_match.proofs.Bools.{either, both, or_true}
 use Rattle.binding_match.specs.Topics.{is_dot, hash, star, StandsFor, any_words, any_word, itself, Covers, some_end, one_word, covers}
-
-either : (a b : Bool) → (a || b) ≡ true → (a ≡ true) ⊎ (b ≡ true)
-either true b h = inl refl
-either false b h = inr h
-
-both : (a b : Bool) → (a && b) ≡ true → (a ≡ true) × (b ≡ true)
-both true b h = (refl, h)
-both false b h = absurd cc
 
 -- ---- a text cut at its first dot
 
@@ -70,10 +63,6 @@ pub some_end-word : (test : List (List ℕ) → Bool) (w : List ℕ) (ws : List 
 unfolding some_end
 some_end-word test w ws = refl
 
-or_true : (a : Bool) → (a || true) ≡ true
-or_true true = refl
-or_true false = refl
-
 pub some_end-more : (test : List (List ℕ) → Bool) (w : List ℕ) (ws : List (List ℕ)) → some_end test ws ≡ true → some_end test (w ∷ ws) ≡ true
 some_end-more test w ws h = some_end-word test w ws ∙ ap (λ (b : Bool). test (w ∷ ws) || b) h ∙ or_true (test (w ∷ ws))
 
@@ -89,30 +78,34 @@ pub some_end-split : (test : List (List ℕ) → Bool) (ws : List (List ℕ)) �
     → (run : List (List ℕ)) × (rest : List (List ℕ)) × (ws ≡ run ++ rest) × (test rest ≡ true)
 some_end-split test [] h = ([], [], refl, sym (some_end-none test) ∙ h)
 some_end-split test (w ∷ ws) h =
-    elim (either (test (w ∷ ws)) (some_end test ws) (sym (some_end-word test w ws) ∙ h))
-    [ inl here ↦ ([], w ∷ ws, refl, here)
-    | inr later ↦ (let s = some_end-split test ws later in (w ∷ s.0, s.1, ap (λ (us : List (List ℕ)). w ∷ us) s.2, s.3)) ]
+    elim (either (test (w ∷ ws)) (some_end test ws) (sym (some_end-word test w ws) ∙ h)) [
+      | inl here ↦ ([], w ∷ ws, refl, here)
+      | inr later ↦ (let s = some_end-split test ws later in (w ∷ s.0, s.1, ap (λ (us : List (List ℕ)). w ∷ us) s.2, s.3))
+    ]
 
 -- what a word and the rest pass at some end, the rest passes at some end behind the first word
 pub some_end-after : (part : List ℕ) (parts : List (List ℕ)) → bytes_eq part hash ≡ false → (w : List ℕ) (ws : List (List ℕ))
     → some_end (covers (part ∷ parts)) (w ∷ ws) ≡ true → some_end (covers parts) ws ≡ true
 some_end-after part parts n w [] h =
-    elim (either _ _ (sym (some_end-word (covers (part ∷ parts)) w []) ∙ h))
-    [ inl here ↦ some_end-here (covers parts) [] (both _ _ (sym (covers-word part parts w [] n) ∙ here)).1
-    | inr later ↦ (let e : covers (part ∷ parts) [] ≡ true = sym (some_end-none (covers (part ∷ parts))) ∙ later in let e' = covers-no_word part parts n in absurd cc) ]
+    elim (either _ _ (sym (some_end-word (covers (part ∷ parts)) w []) ∙ h)) [
+      | inl here ↦ some_end-here (covers parts) [] (both _ _ (sym (covers-word part parts w [] n) ∙ here)).1
+      | inr later ↦ (let e : covers (part ∷ parts) [] ≡ true = sym (some_end-none (covers (part ∷ parts))) ∙ later in let e' = covers-no_word part parts n in absurd cc)
+    ]
 some_end-after part parts n w (u ∷ ws) h =
-    elim (either _ _ (sym (some_end-word (covers (part ∷ parts)) w (u ∷ ws)) ∙ h))
-    [ inl here ↦ some_end-here (covers parts) (u ∷ ws) (both _ _ (sym (covers-word part parts w (u ∷ ws) n) ∙ here)).1
-    | inr later ↦ some_end-more (covers parts) u ws (some_end-after part parts n u ws later) ]
+    elim (either _ _ (sym (some_end-word (covers (part ∷ parts)) w (u ∷ ws)) ∙ h)) [
+      | inl here ↦ some_end-here (covers parts) (u ∷ ws) (both _ _ (sym (covers-word part parts w (u ∷ ws) n) ∙ here)).1
+      | inr later ↦ some_end-more (covers parts) u ws (some_end-after part parts n u ws later)
+    ]
 
 -- one `#` behind another adds nothing
 pub some_end-hash : (part : List ℕ) (parts : List (List ℕ)) → bytes_eq part hash ≡ true → (ws : List (List ℕ))
     → some_end (covers (part ∷ parts)) ws ≡ true → some_end (covers parts) ws ≡ true
 some_end-hash part parts y [] h = sym (covers-hash part parts [] y) ∙ sym (some_end-none (covers (part ∷ parts))) ∙ h
 some_end-hash part parts y (w ∷ ws) h =
-    elim (either _ _ (sym (some_end-word (covers (part ∷ parts)) w ws) ∙ h))
-    [ inl here ↦ sym (covers-hash part parts (w ∷ ws) y) ∙ here
-    | inr later ↦ some_end-more (covers parts) w ws (some_end-hash part parts y ws later) ]
+    elim (either _ _ (sym (some_end-word (covers (part ∷ parts)) w ws) ∙ h)) [
+      | inl here ↦ sym (covers-hash part parts (w ∷ ws) y) ∙ here
+      | inr later ↦ some_end-more (covers parts) w ws (some_end-hash part parts y ws later)
+    ]
 
 -- ---- the test and the relation
 
@@ -127,9 +120,10 @@ by_hash part parts true y rest ws h =
 by_hash part parts false n rest [] h = let e = covers-no_word part parts n in absurd cc
 by_hash part parts false n rest (w ∷ ws) h =
     let t = both _ _ (sym (covers-word part parts w ws n) ∙ h) in
-    elim (either _ _ t.0)
-    [ inl any ↦ (w ∷ [], ws, refl, any_word ((bytes_eq-Decides part star).0 any) refl, rest ws t.1)
-    | inr same ↦ (w ∷ [], ws, refl, itself (ap (λ (v : List ℕ). v ∷ []) (sym ((bytes_eq-Decides part w).0 same))), rest ws t.1) ]
+    elim (either _ _ t.0) [
+      | inl any ↦ (w ∷ [], ws, refl, any_word ((bytes_eq-Decides part star).0 any) refl, rest ws t.1)
+      | inr same ↦ (w ∷ [], ws, refl, itself (ap (λ (v : List ℕ). v ∷ []) (sym ((bytes_eq-Decides part w).0 same))), rest ws t.1)
+    ]
 
 pub covers_yes : (ps ws : List (List ℕ)) → covers ps ws ≡ true → Covers ps ws
 covers_yes [] [] h = refl
@@ -172,9 +166,10 @@ along_start P K = record { same = refl; ahead = λ h. h; shorter = omega arith }
 pub along_word : (P K ps ws : List (List ℕ)) (part : List ℕ) (parts : List (List ℕ)) (w : List ℕ) (rest : List (List ℕ)) → ps ≡ part ∷ parts → ws ≡ w ∷ rest
     → bytes_eq part hash ≡ false → (bytes_eq part star || bytes_eq part w) ≡ true → Along P K ps ws → Along P K parts rest
 along_word P K ps ws part parts w rest eq-parts eq-words n fits a = record {
-    same = sym (covers-word part parts w rest n ∙ ap (λ (b : Bool). b && covers parts rest) fits) ∙ ap (λ (x : List (List ℕ)). covers x (w ∷ rest)) (sym eq-parts) ∙ ap (λ (x : List (List ℕ)). covers ps x) (sym eq-words) ∙ a.same;
-    ahead = λ h. some_end-after part parts n w rest (subst (λ (x : List (List ℕ)). some_end (covers x) (w ∷ rest) ≡ true) eq-parts (subst (λ (x : List (List ℕ)). some_end (covers ps) x ≡ true) eq-words (a.ahead h)));
-    shorter = let l = a.shorter in let e = ap length eq-parts in omega arith }
+  same = sym (covers-word part parts w rest n ∙ ap (λ (b : Bool). b && covers parts rest) fits) ∙ ap (λ (x : List (List ℕ)). covers x (w ∷ rest)) (sym eq-parts) ∙ ap (λ (x : List (List ℕ)). covers ps x) (sym eq-words) ∙ a.same;
+  ahead = λ h. some_end-after part parts n w rest (subst (λ (x : List (List ℕ)). some_end (covers x) (w ∷ rest) ≡ true) eq-parts (subst (λ (x : List (List ℕ)). some_end (covers ps) x ≡ true) eq-words (a.ahead h)));
+  shorter = let l = a.shorter in let e = ap length eq-parts in omega arith;
+}
 
 pub record AtHash (P K parts ws : List (List ℕ)) : Type 0 where
   pub same : some_end (covers parts) ws ≡ covers P K
@@ -183,9 +178,10 @@ pub record AtHash (P K parts ws : List (List ℕ)) : Type 0 where
 
 pub along_hash : (P K ps ws : List (List ℕ)) (part : List ℕ) (parts : List (List ℕ)) → ps ≡ part ∷ parts → bytes_eq part hash ≡ true → Along P K ps ws → AtHash P K parts ws
 along_hash P K ps ws part parts e y a = record {
-    same = sym (covers-hash part parts ws y) ∙ ap (λ (x : List (List ℕ)). covers x ws) (sym e) ∙ a.same;
-    ahead = λ h. some_end-hash part parts y ws (subst (λ (x : List (List ℕ)). some_end (covers x) ws ≡ true) e (a.ahead h));
-    shorter = let l = a.shorter in let e' = ap length e in omega arith }
+  same = sym (covers-hash part parts ws y) ∙ ap (λ (x : List (List ℕ)). covers x ws) (sym e) ∙ a.same;
+  ahead = λ h. some_end-hash part parts y ws (subst (λ (x : List (List ℕ)). some_end (covers x) ws ≡ true) e (a.ahead h));
+  shorter = let l = a.shorter in let e' = ap length e in omega arith;
+}
 
 pub along_differs : (P K ps ws : List (List ℕ)) (part : List ℕ) (parts : List (List ℕ)) (w : List ℕ) (rest : List (List ℕ)) → ps ≡ part ∷ parts → ws ≡ w ∷ rest
     → bytes_eq part hash ≡ false → (bytes_eq part star || bytes_eq part w) ≡ false → Along P K ps ws → false ≡ covers P K
@@ -203,13 +199,6 @@ along_long P K ps ws w rest eq-parts eq-words a =
 pub along_end : (P K ps ws : List (List ℕ)) → ps ≡ [] → ws ≡ [] → Along P K ps ws → true ≡ covers P K
 along_end P K ps ws eq-parts eq-words a =
     sym covers-ends ∙ ap (λ (x : List (List ℕ)). covers x []) (sym eq-parts) ∙ ap (λ (x : List (List ℕ)). covers ps x) (sym eq-words) ∙ a.same
-
--- two tests that pass together are equal
-pub same_test : (a b : Bool) → (a ≡ true → b ≡ true) → (b ≡ true → a ≡ true) → a ≡ b
-same_test true true f g = refl
-same_test true false f g = sym (f refl)
-same_test false true f g = g refl
-same_test false false f g = refl
 
 -- where the walk from the first word fails, the walk from the next one decides
 pub later : (test : List (List ℕ) → Bool) (ws : List (List ℕ)) (w : List ℕ) (rest : List (List ℕ)) → ws ≡ w ∷ rest → test ws ≡ false → some_end test rest ≡ some_end test ws

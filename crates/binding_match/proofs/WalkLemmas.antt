@@ -7,7 +7,8 @@ use Rattle.binding_match.specs.Topics.{is_dot, covers, some_end}
 use Rattle.binding_match.specs.Walks.{words_in, answer_of, StaysAhead}
 use Rattle.binding_match.specs.declared.topic.Walk.{Walk}
 use Rattle.binding_match.specs.declared.topic.Walk.TheVariants as walks
-use Rattle.binding_match.proofs.TopicLemmas.{same_test, some_end-here}
+use Rattle.binding_match.proofs.Bools.{same_test}
+use Rattle.binding_match.proofs.TopicLemmas.{some_end-here}
 
 pub lands : (ps ws : List (List ℕ)) (walk : Walk) → walk ≢ walks.Fails → answer_of walk ≡ covers ps ws → StaysAhead ps ws walk → answer_of walk ≡ some_end (covers ps) ws
 lands ps ws walks.Fails goes e ahead = absurd (goes refl)

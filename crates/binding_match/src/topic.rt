@@ -21,7 +21,11 @@ enum Walk<'a> {
 fn words_of(text: &str) -> Option<&[u8]>
     ensures { words_in (option_copied result) ≡ words_of_text text.now }
 {
-    if text.is_empty() { None } else { Some(text.as_bytes()) }
+    if text.is_empty() {
+        None
+    } else {
+        Some(text.as_bytes())
+    }
 }
 
 fn first_dot(text: &[u8]) -> Option<usize>
@@ -76,7 +80,11 @@ fn walk_to_hash<'a>(mut parts: Option<&'a [u8]>, mut words: Option<&'a [u8]>) ->
         parts = parts_left;
         words = words_left;
     }
-    if words.is_none() { Walk::Ends } else { Walk::Fails }
+    if words.is_none() {
+        Walk::Ends
+    } else {
+        Walk::Fails
+    }
 }
 
 /// Goes along from the first word of the key on from which it reaches the next `#` or both ends.

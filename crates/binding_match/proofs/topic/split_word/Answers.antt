@@ -1,5 +1,5 @@
 use Rattle.binding_match.proofs.TopicLemmas.{split_first, split_none}
-use Rattle.std.proofs.Common.{◌≡◌, ◌∷◌, length, drop, ap, sym, ◌∙◌, rules}
+use Rattle.std.proofs.Common.{rules}
 use Rattle.std.proofs.lemmas.List.{take_rest}
 use Rattle.binding_match.proofs.topic.split_word.Goals as goal
 

@@ -1,6 +1,5 @@
-use Rattle.std.proofs.Common.{◌≡◌, ◌↔◌, IsTrue, true, false, ◌∙◌, sym, rules}
+use Rattle.std.proofs.Common.{◌≡◌, true, false, ◌∙◌, sym, rules}
 use Rattle.binding_match.specs.Topics.{words, covers}
-use Rattle.binding_match.specs.Walks.{answer_of}
 use Rattle.binding_match.proofs.TopicLemmas.{covers_yes, covers_back}
 use Rattle.binding_match.proofs.WalkLemmas.{fails_else}
 use Rattle.binding_match.proofs.topic.topic_matches.Goals as goal

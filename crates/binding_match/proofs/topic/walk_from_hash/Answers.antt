@@ -1,4 +1,4 @@
-use Rattle.std.proofs.Common.{◌≡◌, ◌∷◌, [], false, ◌∙◌, sym, arith, rules}
+use Rattle.std.proofs.Common.{◌∙◌, sym, rules}
 use Rattle.std.specs.Option.{option_copied}
 use Rattle.binding_match.specs.Topics.{covers}
 use Rattle.binding_match.specs.Walks.{words_in}

@@ -1,7 +1,7 @@
-use Rattle.std.proofs.Common.{◌≡◌, ◌∷◌, [], List, ℕ, true, false, ap, ◌∙◌, sym, rules}
+use Rattle.std.proofs.Common.{rules}
 use Rattle.std.specs.Option.{option_copied}
 use Rattle.binding_match.specs.Walks.{words_in}
-use Rattle.binding_match.proofs.TopicLemmas.{Along, AtHash, along_word, along_hash, along_differs, along_short, along_long, along_end}
+use Rattle.binding_match.proofs.TopicLemmas.{along_word, along_hash, along_differs, along_short, along_long, along_end}
 use Rattle.binding_match.proofs.WalkLemmas.{some_word, no_word}
 use Rattle.binding_match.proofs.topic.walk_to_hash.Goals as goal
 

@@ -1,6 +1,5 @@
-use Rattle.std.proofs.Common.{◌≡◌, ◌≤◌, true, length}
+use Rattle.std.proofs.Common.{length}
 use Rattle.std.specs.Option.{option_copied}
-use Rattle.binding_match.specs.Topics.{covers, some_end}
 use Rattle.binding_match.specs.Walks.{words_in}
 use Rattle.binding_match.proofs.TopicLemmas.{Along}
 use Rattle.binding_match.proofs.topic.walk_to_hash.Given as goal
