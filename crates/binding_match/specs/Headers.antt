@@ -18,7 +18,7 @@ is_any _ = false
 abbrev pub asks_any : Pairs → Bool
 asks_any args = option_map_or is_any (first_of (codes "x-match") args) false
 
--- An argument without a value asks that the header is there, whatever its value (AMQP 0-9-1, 3.1.3.4: "If any field has no value").
+-- An argument without a value asks that the header is there, whatever its value (AMQP 0-9-1, 3.1.3.4: arguments name the headers, "and optionally the values they should hold").
 abbrev pub is_void : Field → Bool
 is_void void = true
 is_void _ = false

@@ -61,8 +61,8 @@ fn stands_for(part: &[u8], word: &[u8]) -> bool
 fn walk_to_hash<'a>(mut parts: Option<&'a [u8]>, mut words: Option<&'a [u8]>) -> Walk<'a>
     ensures answer { answer_of result
         ≡ covers (words_in (option_copied parts.entry)) (words_in (option_copied words.entry)) }
-    ensures ahead { StaysAhead (words_in (option_copied parts.entry)) (words_in (option_copied words.entry))
-        result }
+    ensures ahead { StaysAhead (words_in (option_copied parts.entry))
+        (words_in (option_copied words.entry)) result }
     ensures shorter { left_of result ≤ length (words_in (option_copied parts.entry)) }
 {
     while let Some(pattern) = parts {
@@ -90,7 +90,8 @@ fn walk_to_hash<'a>(mut parts: Option<&'a [u8]>, mut words: Option<&'a [u8]>) ->
 /// Goes along from the first word of the key on from which it reaches the next `#` or both ends.
 fn walk_from_hash<'a>(parts: Option<&'a [u8]>, mut words: Option<&'a [u8]>) -> Walk<'a>
     ensures answer { answer_of result
-        ≡ some_end (covers (words_in (option_copied parts.entry))) (words_in (option_copied words.entry)) }
+        ≡ some_end (covers (words_in (option_copied parts.entry)))
+        (words_in (option_copied words.entry)) }
     ensures shorter { left_of result ≤ length (words_in (option_copied parts.entry)) }
 {
     loop {
