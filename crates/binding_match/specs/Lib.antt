@@ -1,0 +1,4 @@
+pub mod Headers
+pub mod Topics
+pub mod Values
+pub mod Walks
