@@ -1,0 +1,3 @@
+pub mod RowHas
+pub mod Spares
+pub mod Stored
