@@ -32,7 +32,7 @@ position-append p xs ys i h =
     subst (λ n. cond (nat_lt n (length (xs ++ ys))) (Some n) None ≡ Some i) (sym same)
     (ap (λ b. cond b (Some i) None) (lt-ltb i (length (xs ++ ys)) (omega (arith, longer, within, parts.1))))
 
-position-within : {X : Type 0} (p : X → Bool) (xs : List X) (i : ℕ) → position p xs ≡ Some i → i < length xs
+pub position-within : {X : Type 0} (p : X → Bool) (xs : List X) (i : ℕ) → position p xs ≡ Some i → i < length xs
 position-within p xs i h =
     let parts : (nat_lt (position_or_len p xs) (length xs) ≡ true) × (position_or_len p xs ≡ i) = cond_some (nat_lt (position_or_len p xs) (length xs)) (position_or_len p xs) i h in
     subst (λ n. n < length xs) parts.1 (ltb-true (position_or_len p xs) (length xs) parts.0)
@@ -42,7 +42,7 @@ slice_get-append [] ys i h = absurd (omega (arith, h))
 slice_get-append (x ∷ xs) ys zero h = refl
 slice_get-append (x ∷ xs) ys (suc i) h = slice_get-append xs ys i (omega (arith, h))
 
-list_any-longer : {X : Type 0} (p : X → Bool) (xs ys : List X) → list_any p xs ≡ true → list_any p (xs ++ ys) ≡ true
+pub list_any-longer : {X : Type 0} (p : X → Bool) (xs ys : List X) → list_any p xs ≡ true → list_any p (xs ++ ys) ≡ true
 list_any-longer p xs ys h = list_any-append p xs ys ∙ or_left (list_any p xs) (list_any p ys) h
 
 -- what must be stored must be so for good
