@@ -1,6 +1,5 @@
 -- What each entry needs in the journal before it.
-use Rattle.std.proofs.Common.{◌≡◌, ℕ, ◌+◌, List, [], ◌∷◌, ◌++◌, Bool, true, false, Option, Some, None, refl, sym, ap, subst, append_assoc, append-nil, ◌∙◌}
-use Rattle.std.specs.Prelude.{Ok, Err}
+use Rattle.std.proofs.Common.{◌≡◌, ℕ, List, [], ◌∷◌, ◌++◌, true, false, Some, sym, subst, append_assoc, append-nil}
 use Rattle.std.specs.List.{list_any}
 use Rattle.fed_journal.specs.declared.link.LinkSpec.{LinkSpec}
 use Rattle.fed_journal.specs.declared.entry.Publisher.{Publisher}
@@ -37,6 +36,8 @@ pub record WasConfirmed (K : List Entry) (l : List ℕ) (s c : ℕ) : Type 0 whe
 -- the session acknowledged the copy, and it wasn't removed for it yet
 pub record WasNoted (K : List Entry) (l : List ℕ) (s c : ℕ) : Type 0 where
   pub before : List Entry
+  pub spec : LinkSpec
+  pub described : link_of K l ≡ Some spec
   pub noted : StandsAfter before (Noted l s c) K
   pub still : has (settled_for l s) c K ≡ false
 

@@ -1,8 +1,8 @@
 -- A copy that a session took is held by it until it is removed.
 use Rattle.std.proofs.Common.{◌≡◌, ℕ, List, [], ◌∷◌, ◌++◌, Bool, true, false, Option, Some, None, refl, sym, ap, subst, ◌∙◌, ◌⊎◌, inl, inr, append_assoc, append-nil}
-use Rattle.std.specs.Prelude.{cond, ◌==◌, ◌&&◌, not, is_some, fold}
+use Rattle.std.specs.Prelude.{cond, ◌==◌, not, is_some, fold}
 use Rattle.std.specs.List.{list_any}
-use Rattle.std.proofs.lemmas.Bool.{true≢false, false≢true, eqb-true, eq-eqb, and_parts, and_from, cond-false, not-true, not_from_false}
+use Rattle.std.proofs.lemmas.Bool.{true≢false, eqb-true, eq-eqb, and_parts, and_from, cond-false, not-true, not_from_false}
 use Rattle.std.proofs.lemmas.Option.{none-some, same_Some}
 use Rattle.std.proofs.lemmas.List.Sums.{fold-append}
 use Rattle.fed_journal.specs.declared.entry.Entry.{Entry}
@@ -10,7 +10,7 @@ use Rattle.fed_journal.specs.declared.entry.Entry.TheVariants.{Took, Sent, Publi
 use Rattle.fed_journal.specs.Copies.{enters, releases, is_gone, is_released}
 use Rattle.fed_journal.specs.Flight.{has, settled_for, is_number}
 use Rattle.fed_journal.specs.Holds.{Holder, Session, hold_step, holder, is_ready}
-use Rattle.run_laws.specs.Kept.{StandsAfter, IsMoved, is_alive}
+use Rattle.run_laws.specs.Kept.{StandsAfter, IsMoved, RemovesHeld, HoldsTaken, is_alive}
 use Rattle.run_laws.proofs.Causes.{Caused, EachCaused, WasNoted, caused-at}
 use Rattle.run_laws.proofs.Inversions.{releases-is, settled_for-same}
 use Rattle.run_laws.proofs.Lists.{IsIn, Split, in-middle, in-longer, in-push_cases, in-split, any-split, any-middle}
@@ -99,7 +99,7 @@ unfolding link_of_holder session_of_holder
 holder-parts k t l s h = (ap link_of_holder h, ap session_of_holder h)
 
 -- a copy that was removed was removed for the session that took it
-removed-for : (K : List Entry) → EachCaused [] K → (l : List ℕ) (s c : ℕ) → IsIn (Took l s c) K → list_any (releases c) K ≡ true → has (settled_for l s) c K ≡ true
+removed-for : (K : List Entry) → EachCaused [] K → (l : List ℕ) (s c : ℕ) → IsIn (Took l s c) K → list_any (releases c) K ≡ true → (before : List Entry) × StandsAfter before (Settled l s c) K
 removed-for K caused l s c taken gone =
     let at : Split (λ e. releases c e ≡ true) K = any-split (releases c) K gone in
     let settled : (k : List ℕ) × (t : ℕ) × (at.at ≡ Settled k t c) = releases-is c at.at at.holds in
@@ -110,11 +110,16 @@ removed-for K caused l s c taken gone =
     let two : fold (hold_step c) None K ≡ Some (Session l s) = taken-all K caused l s c taken in
     let same : (settled.0 ≡ l) × (settled.1 ≡ s) = holder-parts settled.0 settled.1 l s (same_Some (Session settled.0 settled.1) (Session l s) (sym one ∙ two)) in
     let mine : K ≡ at.before ++ Settled l s c ∷ at.rest = subst (λ t. K ≡ at.before ++ Settled l t c ∷ at.rest) same.1 (subst (λ k. K ≡ at.before ++ Settled k settled.1 c ∷ at.rest) same.0 whole) in
-    subst (λ J. has (settled_for l s) c J ≡ true) (sym mine) (any-middle (λ e. is_number c (settled_for l s e)) (Settled l s c) at.before at.rest (settled_for-same l s c))
+    (at.before, (at.rest, mine))
 
-not_gone-by : (b : Bool) (has' : Bool) → has' ≡ false → (b ≡ true → has' ≡ true) → b ≡ false
-not_gone-by true has' e h = absurd (false≢true (sym e ∙ h refl))
-not_gone-by false has' e h = refl
+-- where its session's removal doesn't stand, none does
+not_gone-by : (b : Bool) → (b ≡ true → ⊥) → b ≡ false
+not_gone-by true h = absurd (h refl)
+not_gone-by false h = refl
+
+settled-seen : (K L : List Entry) (l : List ℕ) (s c : ℕ) → StandsAfter L (Settled l s c) K → has (settled_for l s) c K ≡ true
+settled-seen K L l s c stands =
+    subst (λ J. has (settled_for l s) c J ≡ true) (sym stands.1) (any-middle (λ e. is_number c (settled_for l s e)) (Settled l s c) L stands.0 (settled_for-same l s c))
 
 entered-taken : (K : List Entry) → EachCaused [] K → (l : List ℕ) (s c : ℕ) → IsIn (Took l s c) K → list_any (enters c) K ≡ true
 entered-taken K caused l s c taken =
@@ -122,13 +127,23 @@ entered-taken K caused l s c taken =
     let cause : EachCaused [] at.0 × Caused at.0 (Took l s c) = caused-at K at.0 (Took l s c) caused (at.1, at.2) in
     subst (λ J. list_any (enters c) J ≡ true) (sym at.2) (list_any-longer (enters c) at.0 (Took l s c ∷ at.1) cause.1.0)
 
--- a copy is alive and held by the session for which it is removed
-pub held-at : (J : List Entry) → EachCaused [] J → (K : List Entry) (l : List ℕ) (s c : ℕ) → StandsAfter K (Settled l s c) J → (is_alive K c ≡ true) × (holder K c ≡ Some (Session l s))
+-- a copy that a session took is alive and held by it, where it wasn't removed for it
+held-taken : (K : List Entry) → EachCaused [] K → (l : List ℕ) (s c : ℕ) → IsIn (Took l s c) K → ((L : List Entry) → StandsAfter L (Settled l s c) K → ⊥) → (is_alive K c ≡ true) × (holder K c ≡ Some (Session l s))
 unfolding is_released holder
+held-taken K caused l s c taken still =
+    let there : is_gone K c ≡ false = not_gone-by (is_gone K c) (λ gone. let removed : (before : List Entry) × StandsAfter before (Settled l s c) K = removed-for K caused l s c taken gone in still removed.0 removed.1) in (
+      and_from (list_any (enters c) K) (not (is_gone K c)) (entered-taken K caused l s c taken) (not_from_false (is_gone K c) there),
+      cond-false (is_gone K c) None (fold (hold_step c) None K) there ∙ taken-all K caused l s c taken,
+    )
+
+pub holds-at : (J : List Entry) → EachCaused [] J → HoldsTaken J
+holds-at J caused K l s c stands still = held-taken J caused l s c (stands-in K (Took l s c) J stands) still
+
+-- a copy is alive and held by the session for which it is removed
+pub held-at : (J : List Entry) → EachCaused [] J → RemovesHeld J
 held-at J caused K l s c stands =
     let settled : EachCaused [] K × Caused K (Settled l s c) = caused-at J K (Settled l s c) caused stands in
     let noted : WasNoted K l s c = settled.1 in
     let taken : IsIn (Took l s c) K = moved-took K l s c (moved-at J caused K l s c stands) in
-    let there : is_gone K c ≡ false = not_gone-by (is_gone K c) (has (settled_for l s) c K) noted.still (removed-for K settled.0 l s c taken) in
-    (and_from (list_any (enters c) K) (not (is_gone K c)) (entered-taken K settled.0 l s c taken) (not_from_false (is_gone K c) there),
-    cond-false (is_gone K c) None (fold (hold_step c) None K) there ∙ taken-all K settled.0 l s c taken)
+    let held : (is_alive K c ≡ true) × (holder K c ≡ Some (Session l s)) = held-taken K settled.0 l s c taken (λ L removed. true≢false (sym (settled-seen K L l s c removed) ∙ noted.still)) in
+    (ap is_some noted.described, held.0, held.1)

@@ -1,14 +1,14 @@
 -- Which entries the stages of a link's session read.
-use Rattle.std.proofs.Common.{◌≡◌, ℕ, List, [], ◌∷◌, Bool, true, false, Option, Some, None, refl, sym, subst, ap, ◌∙◌}
-use Rattle.std.specs.Prelude.{◌&&◌, cond, nat_eq, ◌==◌}
-use Rattle.std.proofs.lemmas.Bool.{true≢false, false≢true, and_parts, and_from, eq-eqb, eqb-true}
-use Rattle.std.proofs.lemmas.Option.{none-some, same_Some, cond_some}
+use Rattle.std.proofs.Common.{◌≡◌, ℕ, List, true, Option, Some, None, refl, sym, subst, ap}
+use Rattle.std.specs.Prelude.{◌&&◌, cond, ◌==◌}
+use Rattle.std.proofs.lemmas.Bool.{false≢true, and_parts, and_from, eq-eqb, eqb-true}
+use Rattle.std.proofs.lemmas.Option.{none-some, cond_some}
 use Rattle.std.proofs.lemmas.Slice.Eq.{bytes_eq-Decides}
 use Rattle.fed_journal.specs.declared.entry.Publisher.{Publisher}
 use Rattle.fed_journal.specs.declared.entry.Publisher.TheVariants.{Client, Link}
 use Rattle.fed_journal.specs.declared.entry.Publication.{Publication}
 use Rattle.fed_journal.specs.declared.entry.Entry.{Entry}
-use Rattle.fed_journal.specs.declared.entry.Entry.TheVariants.{Took, Sent, Published, Confirmed, Noted, Settled}
+use Rattle.fed_journal.specs.declared.entry.Entry.TheVariants.{Took, Sent, Confirmed, Noted, Settled}
 use Rattle.fed_journal.specs.Names.{same_text}
 use Rattle.fed_journal.specs.Copies.{find_publication, releases}
 use Rattle.fed_journal.specs.Flight.{of_session, taken_by, sent_by, copy_published_by, confirmed_to, noted_by, settled_for, copy_of_publication, copy_from, confirmed_copy, is_number}

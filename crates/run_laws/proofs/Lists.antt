@@ -1,8 +1,8 @@
 -- Where an element stands in a list.
-use Rattle.std.proofs.Common.{◌≡◌, ℕ, List, [], ◌∷◌, ◌++◌, zero, suc, Bool, true, false, Option, Some, None, refl, sym, subst, ap, ◌⊎◌, inl, inr, append_assoc, append-nil}
-use Rattle.std.specs.Prelude.{◌&&◌, ◌||◌, cond, slice_get, find, filter, filter_map}
+use Rattle.std.proofs.Common.{◌≡◌, List, [], ◌∷◌, ◌++◌, Bool, true, false, Option, Some, None, refl, sym, subst, ap, ◌⊎◌, inl, inr}
+use Rattle.std.specs.Prelude.{◌||◌, cond, slice_get, find, filter, filter_map}
 use Rattle.std.specs.List.{list_any, cons_option}
-use Rattle.std.proofs.lemmas.Bool.{true≢false, false≢true, or_right}
+use Rattle.std.proofs.lemmas.Bool.{false≢true, or_right}
 use Rattle.std.proofs.lemmas.Option.{none-some, same_Some}
 
 -- x is an element of the list

@@ -1,9 +1,9 @@
 -- Each event appends entries that have their causes.
-use Rattle.std.proofs.Common.{◌≡◌, ℕ, ◌+◌, ◌-◌, ◌≤◌, ◌<◌, List, [], ◌∷◌, ◌++◌, length, Bool, true, false, Option, Some, None, arith, refl, sym, ap, subst, append_assoc}
-use Rattle.std.specs.Prelude.{Ok, Err, not, ◌&&◌, cond, find, filter, filter_map, position, option_map, nat_le, nat_lt}
+use Rattle.std.proofs.Common.{◌≡◌, ℕ, ◌+◌, ◌-◌, ◌<◌, List, [], ◌∷◌, ◌++◌, length, Bool, true, false, Option, Some, None, arith, refl, sym, ap, subst, append_assoc}
+use Rattle.std.specs.Prelude.{Ok, Err, not, cond, find, filter, filter_map, position, option_map, nat_le, nat_lt}
 use Rattle.std.specs.List.{list_any}
 use Rattle.std.proofs.lemmas.Bool.{and_from, le-leb, lt-ltb}
-use Rattle.std.proofs.lemmas.Option.{none-some, same_Some, cond_some}
+use Rattle.std.proofs.lemmas.Option.{none-some, same_Some}
 use Rattle.fed_journal.specs.declared.place.Place.{Place}
 use Rattle.fed_journal.specs.declared.event.Event.{Event}
 use Rattle.fed_journal.specs.declared.event.Event.TheVariants.{DeclareQueue, Publish, Flush, SetShovel, Open, Take, Send, Accept, Confirm, Note, Settle, Show}
@@ -13,7 +13,7 @@ use Rattle.fed_journal.specs.declared.link.StartState.{StartState}
 use Rattle.fed_journal.specs.declared.link.StartState.TheVariants.{Start, NoBroker, NameTooLong}
 use Rattle.fed_journal.specs.declared.entry.Publication.{Publication}
 use Rattle.fed_journal.specs.declared.entry.Entry.{Entry}
-use Rattle.fed_journal.specs.declared.entry.Entry.TheVariants.{Begun, MadeQueue, Published, Flushed, Took, Sent, Confirmed, Noted, Settled, Opened, ShovelSet}
+use Rattle.fed_journal.specs.declared.entry.Entry.TheVariants.{MadeQueue, Published, Flushed, Took, Sent, Confirmed, Noted, Opened, ShovelSet}
 use Rattle.fed_journal.specs.Configuration.{is_broker}
 use Rattle.fed_journal.specs.Names.{same_text, same_place}
 use Rattle.fed_journal.specs.Copies.{enters, entered, entered_by, is_copy_of, is_secured, publication_of}
@@ -22,7 +22,7 @@ use Rattle.fed_journal.specs.Holds.{is_ready, first_ready, ready_count}
 use Rattle.fed_journal.specs.Links.{link_of, links_of, is_named, is_shovel_set}
 use Rattle.fed_journal.specs.Phases.{phase, session, is_open}
 use Rattle.fed_world.specs.declared.reason.Reason.TheVariants as why
-use Rattle.fed_world.specs.Row.{Row, oldest}
+use Rattle.fed_world.specs.Row.{oldest}
 use Rattle.fed_world.specs.Declare.{declare_row, stands, is_refused, lasting}
 use Rattle.fed_world.specs.Publish.{publish_row}
 use Rattle.fed_world.specs.Flush.{flush_row}
@@ -36,7 +36,7 @@ use Rattle.fed_world.specs.Note.{note_row}
 use Rattle.fed_world.specs.Settle.{settle_row}
 use Rattle.fed_world.specs.Step.{next}
 use Rattle.run_laws.specs.Kept.{StandsAfter}
-use Rattle.run_laws.proofs.Causes.{Caused, EachCaused, PublishesCopy, WasConfirmed, WasNoted}
+use Rattle.run_laws.proofs.Causes.{EachCaused, WasConfirmed, WasNoted}
 use Rattle.run_laws.proofs.Inversions.{same_text-true, taken_by-is, sent_by-is, noted_by-is, confirmed_copy-is, Confirms}
 use Rattle.run_laws.proofs.Lists.{IsIn, Split, first-in, find-in, filter-in, filter_map-in, any-middle}
 use Rattle.run_laws.proofs.RowHas.{RowHas, either-has, at_place-has, with_link-has, while_open-has, one_or_empty-has}
@@ -82,13 +82,15 @@ not-has : (b : Bool) → not b ≡ true → b ≡ false
 not-has true h = sym h
 not-has false h = refl
 
-settle-cause : (J : List Entry) (l : List ℕ) (s c : ℕ) → oldest (flight_noted J l s) ≡ Some c → WasNoted J l s c
+settle-cause : (J : List Entry) (l : List ℕ) (s c : ℕ) (spec : LinkSpec) → link_of J l ≡ Some spec → oldest (flight_noted J l s) ≡ Some c → WasNoted J l s c
 unfolding flight_noted
-settle-cause J l s c h =
+settle-cause J l s c spec d h =
     let found : (not (has (settled_for l s) c J) ≡ true) × Split (λ e. noted_by l s e ≡ Some c) J = first-split (noted_by l s) (λ d. not (has (settled_for l s) d J)) c J h in
     let at : Split (λ e. noted_by l s e ≡ Some c) J = found.1 in
     record {
       before = at.before;
+      spec = spec;
+      described = d;
       noted = stands-as J (λ e. noted_by l s e ≡ Some c) (Noted l s c) at (noted_by-is l s c at.at at.holds);
       still = not-has (has (settled_for l s) c J) found.0;
     }
@@ -177,7 +179,7 @@ note_row-caused J l =
 settle_row-caused : (J : List Entry) (l : List ℕ) → RowHas (EachCaused J) (settle_row J l)
 unfolding settle_row
 settle_row-caused J l =
-    with_link-has (EachCaused J) J l _ (λ spec d. while_open-has (EachCaused J) J l _ (one_or_empty-has (EachCaused J) _ (oldest (flight_noted J l (session J l))) (λ c e. (settle-cause J l (session J l) c e, tt))))
+    with_link-has (EachCaused J) J l _ (λ spec d. while_open-has (EachCaused J) J l _ (one_or_empty-has (EachCaused J) _ (oldest (flight_noted J l (session J l))) (λ c e. (settle-cause J l (session J l) c spec d e, tt))))
 
 flush_row-caused : (J : List Entry) (b : List ℕ) → RowHas (EachCaused J) (flush_row J b)
 unfolding flush_row

@@ -7,7 +7,6 @@ use Rattle.fed_journal.specs.declared.entry.Entry.{Entry}
 use Rattle.fed_journal.specs.Configuration.{is_place}
 use Rattle.fed_journal.specs.Links.{link_of}
 use Rattle.fed_journal.specs.Phases.{phase, is_open}
-use Rattle.fed_world.specs.declared.reason.Reason.{Reason}
 use Rattle.fed_world.specs.declared.reason.Reason.TheVariants.{NoPlace, NotOpen}
 use Rattle.fed_world.specs.Row.{Row, at_place, with_link, with_spec, while_open, one_or_empty}
 

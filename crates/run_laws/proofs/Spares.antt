@@ -1,6 +1,6 @@
 -- No event but a settle appends an entry by which a copy is gone.
-use Rattle.std.proofs.Common.{◌≡◌, ℕ, ◌+◌, List, [], ◌∷◌, ◌++◌, Bool, true, false, Option, Some, None, refl, sym, ap, subst, append_assoc}
-use Rattle.std.specs.Prelude.{Ok, Err, not, ◌&&◌, ◌||◌, if◌then◌else◌, find}
+use Rattle.std.proofs.Common.{◌≡◌, ℕ, ◌+◌, List, [], ◌∷◌, ◌++◌, Bool, true, false, Option, Some, None, refl, sym, subst, append_assoc}
+use Rattle.std.specs.Prelude.{Ok, Err, not, find}
 use Rattle.std.specs.List.{list_any}
 use Rattle.std.proofs.lemmas.Bool.{true≢false}
 use Rattle.fed_journal.specs.declared.place.Place.{Place}
@@ -12,7 +12,7 @@ use Rattle.fed_journal.specs.declared.link.StartState.{StartState}
 use Rattle.fed_journal.specs.declared.link.StartState.TheVariants.{Start, NoBroker, NameTooLong}
 use Rattle.fed_journal.specs.declared.entry.Publication.{Publication}
 use Rattle.fed_journal.specs.declared.entry.Entry.{Entry}
-use Rattle.fed_journal.specs.declared.entry.Entry.TheVariants.{Settled, MadeQueue, Opened, Flushed, ShovelSet}
+use Rattle.fed_journal.specs.declared.entry.Entry.TheVariants.{MadeQueue, Opened, Flushed, ShovelSet}
 use Rattle.fed_journal.specs.Configuration.{is_broker}
 use Rattle.fed_journal.specs.Copies.{releases, publication_of, is_secured}
 use Rattle.fed_journal.specs.Links.{is_shovel_set}
@@ -20,13 +20,12 @@ use Rattle.fed_journal.specs.Phases.{phase, session, is_open}
 use Rattle.fed_journal.specs.Holds.{ready_count}
 use Rattle.fed_journal.specs.Flight.{flight_took, flight_sent, flight_published, flight_confirmed}
 use Rattle.fed_world.specs.declared.reason.Reason.TheVariants as why
-use Rattle.fed_world.specs.Row.{Row, oldest}
+use Rattle.fed_world.specs.Row.{oldest}
 use Rattle.fed_world.specs.Declare.{declare_row, stands, is_refused, lasting}
 use Rattle.fed_world.specs.Publish.{publish_row}
 use Rattle.fed_world.specs.Flush.{flush_row}
 use Rattle.fed_world.specs.SetShovel.{set_shovel_row}
 use Rattle.fed_world.specs.Open.{open_row, opened, open_if_startable, made_if, is_target_missing}
-use Rattle.fed_world.specs.Take.{take_row, first_ready_at}
 use Rattle.fed_world.specs.Send.{send_row}
 use Rattle.fed_world.specs.Accept.{accept_row, accept_first, accepted}
 use Rattle.fed_world.specs.Confirm.{confirm_row, confirm_first, confirmed}

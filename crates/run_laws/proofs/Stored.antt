@@ -1,8 +1,8 @@
 -- A copy that is alive and stored stays so while nothing removes it.
-use Rattle.std.proofs.Common.{◌≡◌, ℕ, ◌+◌, ◌<◌, ◌≤◌, List, [], ◌∷◌, ◌++◌, length, zero, suc, Bool, true, false, Option, Some, None, arith, refl, sym, subst, ap, take, drop, ◌∙◌}
-use Rattle.std.specs.Prelude.{Ok, Err, not, ◌&&◌, ◌||◌, cond, nat_lt, nat_eq, position, slice_get}
-use Rattle.std.specs.List.{list_any, position_or_len, prefix_len}
-use Rattle.std.proofs.lemmas.Bool.{true≢false, false≢true, and_parts, and_from, or_left, ltb-true, lt-ltb, ne_eqb, not-true, not_from_false}
+use Rattle.std.proofs.Common.{◌≡◌, ℕ, ◌+◌, ◌<◌, List, [], ◌∷◌, ◌++◌, length, zero, suc, Bool, true, false, Option, Some, None, arith, refl, sym, subst, ap, take, drop, ◌∙◌}
+use Rattle.std.specs.Prelude.{Ok, Err, not, ◌||◌, cond, nat_lt, position, slice_get}
+use Rattle.std.specs.List.{list_any, position_or_len}
+use Rattle.std.proofs.lemmas.Bool.{false≢true, and_parts, and_from, or_left, ltb-true, lt-ltb, ne_eqb, not-true, not_from_false}
 use Rattle.std.proofs.lemmas.Option.{cond_some}
 use Rattle.std.proofs.lemmas.List.Folds.{list_any-append, prefix_len-append}
 use Rattle.std.proofs.lemmas.List.{take-append-le, drop-append-le, length-append}
@@ -13,7 +13,7 @@ use Rattle.fed_journal.specs.Copies.{enters, releases, flushes, is_released, is_
 use Rattle.fed_world.specs.Row.{Row}
 use Rattle.fed_world.specs.Step.{next, after}
 use Rattle.fed_world.specs.Run.{run, moment}
-use Rattle.run_laws.specs.Kept.{is_removal, is_alive, EachMoment, KeepsStored}
+use Rattle.run_laws.specs.Kept.{is_alive, EachMoment, KeepsStored}
 use Rattle.run_laws.proofs.RowHas.{RowHas}
 use Rattle.run_laws.proofs.Spares.{Spares, next-spares}
 

@@ -1,5 +1,5 @@
 -- What a run keeps: stored copies stay in their queues, and a link removes from its source only what its target secured.
-use Rattle.std.specs.Prelude.{◌≡◌, ℕ, List, [], ◌∷◌, ◌++◌, Bool, true, false, ◌&&◌, not, Option, Some, None, IsTrue, IsFalse}
+use Rattle.std.specs.Prelude.{◌≡◌, ℕ, List, [], ◌∷◌, ◌++◌, Bool, true, false, ◌&&◌, not, Option, Some, None, is_some, IsTrue, IsFalse}
 use Rattle.std.specs.List.{list_any}
 use Rattle.fed_journal.specs.declared.event.Event.{Event}
 use Rattle.fed_journal.specs.declared.event.Event.TheVariants.{Take, Settle}
@@ -11,7 +11,7 @@ use Rattle.fed_journal.specs.declared.entry.Publication.{Publication}
 use Rattle.fed_journal.specs.declared.entry.Entry.{Entry}
 use Rattle.fed_journal.specs.declared.entry.Entry.TheVariants.{Took, Sent, Published, Confirmed, Noted, Settled}
 use Rattle.fed_journal.specs.Copies.{enters, is_gone, is_stored, is_secured, find_publication, publication_of}
-use Rattle.fed_journal.specs.Holds.{Holder, Session, holder}
+use Rattle.fed_journal.specs.Holds.{Session, holder}
 use Rattle.fed_journal.specs.Links.{link_of}
 use Rattle.fed_journal.specs.Outgoing.{outgoing}
 use Rattle.fed_world.specs.Run.{Moment}
@@ -22,7 +22,7 @@ is_removal (Take link) = true
 is_removal (Settle link) = true
 is_removal _ = false
 
--- a copy that entered its queue and hasn't left it (AMQP 0-9-1, 3.1.1: message queues)
+-- a copy that entered its queue and hasn't left it (AMQP 0-9-1, basic.publish, basic.ack)
 abbrev pub is_alive : List Entry → ℕ → Bool
 is_alive J c = list_any (enters c) J && not (is_gone J c)
 
@@ -83,12 +83,17 @@ pub record IsMoved (J : List Entry) (l : List ℕ) (s c : ℕ) : Type 0 where
 abbrev pub RemovesMoved : List Entry → Type 0
 RemovesMoved J = (K : List Entry) (l : List ℕ) (s c : ℕ) → StandsAfter K (Settled l s c) J → IsTrue (is_on_confirm (link_of K l)) → IsMoved K l s c
 
--- a link's source removes a copy only where it is in its queue and held by that session (RabbitMQ, Consumer Acknowledgements)
+-- a link's source removes a copy only for a link that the configuration describes, and only where the copy is in its queue and held by that session (RabbitMQ, Consumer Acknowledgements)
 abbrev pub RemovesHeld : List Entry → Type 0
-RemovesHeld J = (K : List Entry) (l : List ℕ) (s c : ℕ) → StandsAfter K (Settled l s c) J → IsTrue (is_alive K c) × (holder K c ≡ Some (Session l s))
+RemovesHeld J = (K : List Entry) (l : List ℕ) (s c : ℕ) → StandsAfter K (Settled l s c) J → IsTrue (is_some (link_of K l)) × IsTrue (is_alive K c) × (holder K c ≡ Some (Session l s))
+
+-- a copy that a session took, and that wasn't removed for it, is in its queue and held by that session (RabbitMQ, Consumer Acknowledgements)
+abbrev pub HoldsTaken : List Entry → Type 0
+HoldsTaken J = (K : List Entry) (l : List ℕ) (s c : ℕ) → StandsAfter K (Took l s c) J → ((L : List Entry) → StandsAfter L (Settled l s c) J → ⊥) → IsTrue (is_alive J c) × (holder J c ≡ Some (Session l s))
 
 -- a run of these moments from the journal J on is kept
 pub record IsKept (J : List Entry) (moments : List Moment) : Type 0 where
   pub stored : EachMoment KeepsStored J moments
   pub moved : RemovesMoved (last_journal J moments)
   pub held : RemovesHeld (last_journal J moments)
+  pub holds : EachMoment (λ K m. HoldsTaken m.journal) J moments
