@@ -12,7 +12,7 @@ use Rattle.fed_journal.specs.Flight.{has, settled_for}
 use Rattle.fed_journal.specs.Holds.{is_ready}
 use Rattle.fed_journal.specs.Links.{link_of}
 use Rattle.fed_journal.specs.Outgoing.{outgoing}
-use Rattle.run_laws.specs.Kept.{StandsAfter}
+use Rattle.run_laws.specs.Kept.{StandsAfter, IsPublishedFor}
 
 -- the copy was sent on by the session, and the message is what its link publishes for it
 pub record PublishesCopy (K : List Entry) (x : Publication) (l : List ℕ) (s c : ℕ) : Type 0 where
@@ -49,7 +49,7 @@ abbrev pub Caused : List Entry → Entry → Type 0
 Caused K (Took l s c) = (list_any (enters c) K ≡ true) × (is_ready K c ≡ true)
 Caused K (Sent l s c) = (before : List Entry) × StandsAfter before (Took l s c) K
 Caused K (Published x) = CausedBy K x x.by
-Caused K (Confirmed l s p) = is_secured K p ≡ true
+Caused K (Confirmed l s p) = (is_secured K p ≡ true) × IsPublishedFor K l s p
 Caused K (Noted l s c) = WasConfirmed K l s c
 Caused K (Settled l s c) = WasNoted K l s c
 Caused K _ = Unit {0}

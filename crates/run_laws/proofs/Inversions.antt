@@ -2,16 +2,16 @@
 use Rattle.std.proofs.Common.{◌≡◌, ℕ, List, true, Option, Some, None, refl, sym, subst, ap}
 use Rattle.std.specs.Prelude.{◌&&◌, cond, ◌==◌}
 use Rattle.std.proofs.lemmas.Bool.{false≢true, and_parts, and_from, eq-eqb, eqb-true}
-use Rattle.std.proofs.lemmas.Option.{none-some, cond_some}
+use Rattle.std.proofs.lemmas.Option.{same_Some, none-some, cond_some}
 use Rattle.std.proofs.lemmas.Slice.Eq.{bytes_eq-Decides}
 use Rattle.fed_journal.specs.declared.entry.Publisher.{Publisher}
 use Rattle.fed_journal.specs.declared.entry.Publisher.TheVariants.{Client, Link}
 use Rattle.fed_journal.specs.declared.entry.Publication.{Publication}
 use Rattle.fed_journal.specs.declared.entry.Entry.{Entry}
-use Rattle.fed_journal.specs.declared.entry.Entry.TheVariants.{Took, Sent, Confirmed, Noted, Settled}
+use Rattle.fed_journal.specs.declared.entry.Entry.TheVariants.{Published, Took, Sent, Confirmed, Noted, Settled}
 use Rattle.fed_journal.specs.Names.{same_text}
 use Rattle.fed_journal.specs.Copies.{find_publication, releases}
-use Rattle.fed_journal.specs.Flight.{of_session, taken_by, sent_by, copy_published_by, confirmed_to, noted_by, settled_for, copy_of_publication, copy_from, confirmed_copy, is_number}
+use Rattle.fed_journal.specs.Flight.{of_session, taken_by, sent_by, copy_published_by, number_if, published_by, confirmed_to, noted_by, settled_for, copy_of_publication, copy_from, confirmed_copy, is_number}
 
 pub same_text-true : (a b : List ℕ) → same_text a b ≡ true → a ≡ b
 same_text-true a b h = (bytes_eq-Decides a b).0 h
@@ -89,3 +89,20 @@ releases-is c _ h = absurd (false≢true h)
 -- a session's settle is seen where one asks for it
 pub settled_for-same : (l : List ℕ) (s c : ℕ) → is_number c (settled_for l s (Settled l s c)) ≡ true
 settled_for-same l s c = subst (λ o. is_number c o ≡ true) (sym (of_session-same l s c)) (eq-eqb c c refl)
+
+-- an entry by which the target published under that number for the session
+pub record Publishes (l : List ℕ) (s p : ℕ) (e : Entry) : Type 0 where
+  pub publication : Publication
+  pub copy : ℕ
+  pub entry : e ≡ Published publication
+  pub number : publication.number ≡ p
+  pub by : publication.by ≡ Link l s copy
+
+publishes-of : (l : List ℕ) (s p : ℕ) (x : Publication) (o : Option ℕ) → copy_published_by l s x.by ≡ o → number_if x.number o ≡ Some p → Publishes l s p (Published x)
+publishes-of l s p x None h k = absurd (none-some p k)
+publishes-of l s p x (Some c) h k =
+    record { publication = x; copy = c; entry = refl; number = same_Some x.number p k; by = published_by-is l s c x.by h }
+
+pub publishes-is : (l : List ℕ) (s p : ℕ) (e : Entry) → published_by l s e ≡ Some p → Publishes l s p e
+publishes-is l s p (Published x) h = publishes-of l s p x (copy_published_by l s x.by) refl h
+publishes-is l s p _ h = absurd (none-some p h)

@@ -7,4 +7,5 @@ pub mod RowCaused
 pub mod RowHas
 pub mod RunKept
 pub mod Spares
+pub mod Stages
 pub mod Stored

@@ -8,7 +8,7 @@ use Rattle.fed_journal.specs.declared.entry.Entry.{Entry}
 use Rattle.fed_journal.specs.declared.entry.Entry.TheVariants.{Took, Sent, Published, Confirmed, Noted, Settled}
 use Rattle.fed_journal.specs.declared.entry.Publisher.TheVariants.{Link}
 use Rattle.fed_journal.specs.Copies.{find_publication, is_secured, is_secured_at}
-use Rattle.run_laws.specs.Kept.{StandsAfter, IsMoved}
+use Rattle.run_laws.specs.Kept.{StandsAfter, IsConfirmedFor, IsMoved}
 use Rattle.run_laws.proofs.Causes.{Caused, CausedBy, EachCaused, PublishesCopy, WasConfirmed, WasNoted, caused-at}
 
 -- the publication of the number stands in the journal
@@ -84,18 +84,40 @@ moved-published J at_noted at_confirmed at_published l s c x noted confirmed pub
       secured = secured;
     }
 
+-- the publication that was confirmed for an acknowledged copy was secured then
+record SecuredFor (K : List Entry) (x : Publication) (l : List ℕ) (s c : ℕ) : Type 0 where
+  at_confirmed : List Entry
+  caused : EachCaused [] at_confirmed
+  confirmed : StandsAfter at_confirmed (Confirmed l s x.number) K
+  found : find_publication x.number at_confirmed ≡ Some x
+  secured : is_secured at_confirmed x.number ≡ true
+
+secured-for : (K : List Entry) (l : List ℕ) (s c : ℕ) → EachCaused [] K → (w : WasConfirmed K l s c) → SecuredFor K w.publication l s c
+secured-for K l s c caused w =
+    let x : Publication = w.publication in
+    let confirmed : EachCaused [] w.before × Caused w.before (Confirmed l s w.number) = caused-at K w.before (Confirmed l s w.number) caused w.confirmed in
+    let found : find_publication w.number w.before ≡ Some x = found-before w.before (Confirmed l s w.number) K w.number x w.confirmed w.found confirmed.1.0 in
+    let same : w.number ≡ x.number = sym (found-at w.number w.before x found).number in
+    record {
+      at_confirmed = w.before;
+      caused = confirmed.0;
+      confirmed = subst (λ n. StandsAfter w.before (Confirmed l s n) K) same w.confirmed;
+      found = subst (λ n. find_publication n w.before ≡ Some x) same found;
+      secured = subst (λ n. is_secured w.before n ≡ true) same confirmed.1.0;
+    }
+
+pub confirmed-at : (K : List Entry) (l : List ℕ) (s c : ℕ) → EachCaused [] K → WasConfirmed K l s c → IsConfirmedFor K l s c
+confirmed-at K l s c caused w =
+    let f : SecuredFor K w.publication l s c = secured-for K l s c caused w in
+    record { at_confirmed = f.at_confirmed; publication = w.publication; confirmed = f.confirmed; found = f.found; by = w.by }
+
 moved-confirmed : (J at_noted : List Entry) (l : List ℕ) (s c : ℕ) → StandsAfter at_noted (Noted l s c) J → EachCaused [] at_noted → WasConfirmed at_noted l s c → IsMoved J l s c
 moved-confirmed J at_noted l s c noted caused w =
     let x : Publication = w.publication in
-    let confirmed : EachCaused [] w.before × Caused w.before (Confirmed l s w.number) = caused-at at_noted w.before (Confirmed l s w.number) caused w.confirmed in
-    let found : find_publication w.number w.before ≡ Some x = found-before w.before (Confirmed l s w.number) at_noted w.number x w.confirmed w.found confirmed.1 in
-    let at : FoundAt w.number w.before x = found-at w.number w.before x found in
-    let published : EachCaused [] at.before × Caused at.before (Published x) = caused-at w.before at.before (Published x) confirmed.0 at.stands in
-    moved-published J at_noted w.before at.before l s c x noted
-    (subst (λ n. StandsAfter w.before (Confirmed l s n) at_noted) (sym at.number) w.confirmed)
-    at.stands w.by
-    (subst (λ n. find_publication n w.before ≡ Some x) (sym at.number) found)
-    (subst (λ n. is_secured w.before n ≡ true) (sym at.number) confirmed.1)
+    let f : SecuredFor at_noted x l s c = secured-for at_noted l s c caused w in
+    let at : FoundAt x.number f.at_confirmed x = found-at x.number f.at_confirmed x f.found in
+    let published : EachCaused [] at.before × Caused at.before (Published x) = caused-at f.at_confirmed at.before (Published x) f.caused at.stands in
+    moved-published J at_noted f.at_confirmed at.before l s c x noted f.confirmed at.stands w.by f.found f.secured
     published.0 (subst (CausedBy at.before x) w.by published.1)
 
 -- a copy that is removed went its whole way before

@@ -17,7 +17,7 @@ use Rattle.fed_journal.specs.declared.entry.Entry.TheVariants.{MadeQueue, Publis
 use Rattle.fed_journal.specs.Configuration.{is_broker}
 use Rattle.fed_journal.specs.Names.{same_text, same_place}
 use Rattle.fed_journal.specs.Copies.{enters, entered, entered_by, is_copy_of, is_secured, publication_of}
-use Rattle.fed_journal.specs.Flight.{has, taken_by, sent_by, published_from, noted_by, settled_for, confirmed_copy, flight_took, flight_sent, flight_published, flight_confirmed, flight_noted}
+use Rattle.fed_journal.specs.Flight.{has, taken_by, sent_by, published_from, published_by, confirmed_to, noted_by, settled_for, confirmed_copy, flight_took, flight_sent, flight_published, flight_confirmed, flight_noted}
 use Rattle.fed_journal.specs.Holds.{is_ready, first_ready, ready_count}
 use Rattle.fed_journal.specs.Links.{link_of, links_of, is_named, is_shovel_set}
 use Rattle.fed_journal.specs.Phases.{phase, session, is_open}
@@ -35,9 +35,9 @@ use Rattle.fed_world.specs.Confirm.{confirm_row, confirm_first, confirmed}
 use Rattle.fed_world.specs.Note.{note_row}
 use Rattle.fed_world.specs.Settle.{settle_row}
 use Rattle.fed_world.specs.Step.{next}
-use Rattle.run_laws.specs.Kept.{StandsAfter}
+use Rattle.run_laws.specs.Kept.{StandsAfter, IsPublishedFor}
 use Rattle.run_laws.proofs.Causes.{EachCaused, WasConfirmed, WasNoted}
-use Rattle.run_laws.proofs.Inversions.{same_text-true, taken_by-is, sent_by-is, noted_by-is, confirmed_copy-is, Confirms}
+use Rattle.run_laws.proofs.Inversions.{same_text-true, taken_by-is, sent_by-is, noted_by-is, confirmed_copy-is, Confirms, publishes-is, Publishes}
 use Rattle.run_laws.proofs.Lists.{IsIn, Split, first-in, find-in, filter-in, filter_map-in, any-middle}
 use Rattle.run_laws.proofs.RowHas.{RowHas, either-has, at_place-has, with_link-has, while_open-has, one_or_empty-has}
 use Rattle.run_laws.proofs.Stored.{position-within}
@@ -148,18 +148,34 @@ accept_row-caused : (J : List Entry) (l : List ℕ) → RowHas (EachCaused J) (a
 unfolding accept_row
 accept_row-caused J l = with_link-has (EachCaused J) J l _ (λ spec d. while_open-has (EachCaused J) J l _ (accept_spec-caused J l spec d))
 
-confirmed-caused : (J : List Entry) (l : List ℕ) (s : ℕ) (ps : List ℕ) (o : Option ℕ) → find (is_secured J) ps ≡ o → RowHas (EachCaused J) (confirmed l s o)
-confirmed-caused J l s ps None h = tt
-confirmed-caused J l s ps (Some p) h = ((find-in (is_secured J) p ps h).0, tt)
+confirm-cause : (J : List Entry) (l : List ℕ) (s p : ℕ) → IsIn p (flight_published J l s) → IsPublishedFor J l s p
+unfolding flight_published
+confirm-cause J l s p h =
+    let at : Split (λ e. published_by l s e ≡ Some p) J = filter_map-in (published_by l s) p J (filter-in (λ q. not (has (confirmed_to l s) q J)) p (filter_map (published_by l s) J) h).1 in
+    let publishes : Publishes l s p at.at = publishes-is l s p at.at at.holds in
+    record {
+      at_published = at.before;
+      publication = publishes.publication;
+      copy = publishes.copy;
+      published = stands-as J (λ e. published_by l s e ≡ Some p) (Published publishes.publication) at publishes.entry;
+      number = publishes.number;
+      by = publishes.by;
+    }
 
-confirm_first-caused : (J : List Entry) (l : List ℕ) (s : ℕ) (ps : List ℕ) → RowHas (EachCaused J) (confirm_first J l s ps)
-confirm_first-caused J l s [] = tt
-confirm_first-caused J l s (p ∷ ps) = confirmed-caused J l s (p ∷ ps) (find (is_secured J) (p ∷ ps)) refl
+confirmed-caused : (J : List Entry) (l : List ℕ) (s : ℕ) (ps : List ℕ) (o : Option ℕ) → ((p : ℕ) → IsIn p ps → IsPublishedFor J l s p) → find (is_secured J) ps ≡ o → RowHas (EachCaused J) (confirmed l s o)
+confirmed-caused J l s ps None published h = tt
+confirmed-caused J l s ps (Some p) published h =
+    let found : (is_secured J p ≡ true) × IsIn p ps = find-in (is_secured J) p ps h in
+    ((found.0, published p found.1), tt)
+
+confirm_first-caused : (J : List Entry) (l : List ℕ) (s : ℕ) (ps : List ℕ) → ((p : ℕ) → IsIn p ps → IsPublishedFor J l s p) → RowHas (EachCaused J) (confirm_first J l s ps)
+confirm_first-caused J l s [] published = tt
+confirm_first-caused J l s (p ∷ ps) published = confirmed-caused J l s (p ∷ ps) (find (is_secured J) (p ∷ ps)) published refl
 
 confirm_row-caused : (J : List Entry) (l : List ℕ) → RowHas (EachCaused J) (confirm_row J l)
 unfolding confirm_row
 confirm_row-caused J l =
-    with_link-has (EachCaused J) J l _ (λ spec d. while_open-has (EachCaused J) J l _ (confirm_first-caused J l (session J l) (flight_published J l (session J l))))
+    with_link-has (EachCaused J) J l _ (λ spec d. while_open-has (EachCaused J) J l _ (confirm_first-caused J l (session J l) (flight_published J l (session J l)) (confirm-cause J l (session J l))))
 
 take_row-caused : (J : List Entry) (l : List ℕ) → RowHas (EachCaused J) (take_row J l)
 unfolding take_row

@@ -12,6 +12,7 @@ use Rattle.run_laws.proofs.Held.{held-at, holds-at}
 use Rattle.run_laws.proofs.Moved.{moved-at}
 use Rattle.run_laws.proofs.RowCaused.{next-caused}
 use Rattle.run_laws.proofs.RowHas.{RowHas}
+use Rattle.run_laws.proofs.Stages.{follows-stages}
 use Rattle.run_laws.proofs.Stored.{run-keeps_stored}
 
 begin-caused : (K : List Entry) (brokers : List (List ℕ)) → EachCaused K (begin brokers)
@@ -41,4 +42,5 @@ run-kept brokers events =
       moved = λ K l s c stands mode. moved-at J caused K l s c stands;
       held = held-at J caused;
       holds = each-holds (begin brokers) events (begin-caused [] brokers);
+      stages = follows-stages J caused;
     }

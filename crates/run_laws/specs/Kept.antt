@@ -79,6 +79,23 @@ pub record IsMoved (J : List Entry) (l : List ℕ) (s c : ℕ) : Type 0 where
   pub found : find_publication publication.number at_confirmed ≡ Some publication
   pub secured : IsTrue (is_secured at_confirmed publication.number)
 
+-- the target published under that number for the session, from one of its copies
+pub record IsPublishedFor (J : List Entry) (l : List ℕ) (s p : ℕ) : Type 0 where
+  pub at_published : List Entry
+  pub publication : Publication
+  pub copy : ℕ
+  pub published : StandsAfter at_published (Published publication) J
+  pub number : publication.number ≡ p
+  pub by : publication.by ≡ Link l s copy
+
+-- the target confirmed to the session what it published for it from the copy
+pub record IsConfirmedFor (J : List Entry) (l : List ℕ) (s c : ℕ) : Type 0 where
+  pub at_confirmed : List Entry
+  pub publication : Publication
+  pub confirmed : StandsAfter at_confirmed (Confirmed l s publication.number) J
+  pub found : find_publication publication.number at_confirmed ≡ Some publication
+  pub by : publication.by ≡ Link l s c
+
 -- before a link's source removes a copy, the copy went its whole way: its target has stored or released what it published for it
 abbrev pub RemovesMoved : List Entry → Type 0
 RemovesMoved J = (K : List Entry) (l : List ℕ) (s c : ℕ) → StandsAfter K (Settled l s c) J → IsTrue (is_on_confirm (link_of K l)) → IsMoved K l s c
@@ -91,9 +108,21 @@ RemovesHeld J = (K : List Entry) (l : List ℕ) (s c : ℕ) → StandsAfter K (S
 abbrev pub HoldsTaken : List Entry → Type 0
 HoldsTaken J = (K : List Entry) (l : List ℕ) (s c : ℕ) → StandsAfter K (Took l s c) J → ((L : List Entry) → StandsAfter L (Settled l s c) J → ⊥) → IsTrue (is_alive J c) × (holder J c ≡ Some (Session l s))
 
+-- each stage of a copy follows the one before it, in the same session (RabbitMQ, Shovel: ack-mode on-confirm; Publisher Confirms)
+pub record FollowsStages (J : List Entry) : Type 0 where
+  -- what a session sent on, it had taken
+  pub sent : (K : List Entry) (l : List ℕ) (s c : ℕ) → StandsAfter K (Sent l s c) J → (L : List Entry) × StandsAfter L (Took l s c) K
+  -- what the target published for a session, the session had sent on
+  pub published : (K : List Entry) (x : Publication) (l : List ℕ) (s c : ℕ) → StandsAfter K (Published x) J → x.by ≡ Link l s c → (L : List Entry) × StandsAfter L (Sent l s c) K
+  -- what the target confirmed to a session, it had published for the session and secured
+  pub confirmed : (K : List Entry) (l : List ℕ) (s p : ℕ) → StandsAfter K (Confirmed l s p) J → IsTrue (is_secured K p) × IsPublishedFor K l s p
+  -- what a session acknowledged, the target had confirmed to it
+  pub noted : (K : List Entry) (l : List ℕ) (s c : ℕ) → StandsAfter K (Noted l s c) J → IsConfirmedFor K l s c
+
 -- a run of these moments from the journal J on is kept
 pub record IsKept (J : List Entry) (moments : List Moment) : Type 0 where
   pub stored : EachMoment KeepsStored J moments
   pub moved : RemovesMoved (last_journal J moments)
   pub held : RemovesHeld (last_journal J moments)
   pub holds : EachMoment (λ K m. HoldsTaken m.journal) J moments
+  pub stages : FollowsStages (last_journal J moments)
