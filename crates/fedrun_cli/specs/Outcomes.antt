@@ -3,7 +3,8 @@ use Rattle.std.specs.Prelude.{◌≡◌, ℕ, ◌<◌, List, length, Option, Som
 use Rattle.fed_schedule.specs.declared.script.ScheduleFault.TheVariants as fault
 use Rattle.fed_schedule.specs.Schedule.{Reading, reading}
 use Rattle.fed_outside.specs.Outside.{Rose, grown, GrownByPrefix}
-use Rattle.fed_world.specs.Run.{begin}
+use Rattle.fed_world.specs.Run.{begin, run}
+use Rattle.run_laws.specs.Kept.{IsKept}
 use Rattle.fedrun_cli.specs.declared.ending.Ending.{Ending}
 use Rattle.fedrun_cli.specs.declared.ending.Ending.TheVariants.{Done, Memory, Usage, Line, ReadFault, WriteFault, FileTooLong, Places, Entries, Absent}
 use Rattle.fedrun_cli.specs.declared.command.TheConstants.{MAX_FILE, MAX_PLACES}
@@ -27,9 +28,14 @@ LacksFile (Some files) name = files name ≡ None
 abbrev pub output : Reading → List ℕ
 output r = report (begin r.brokers) r.events
 
--- The content spells a schedule, and its output went out whole.
+-- nothing takes a stored message out of its queue in the run that a schedule spells, and its links remove only what their
+-- targets have stored or released
+abbrev pub IsKeptRun : Reading → Type 0
+IsKeptRun r = IsKept (begin r.brokers) (run (begin r.brokers) r.events)
+
+-- The content spells a schedule, its output went out whole, and the run that it tells is kept.
 abbrev pub IsReported : Option (List ℕ) → Option (List ℕ) → List ℕ → Type 0
-IsReported before now content = (r : Reading) × (reading content ≡ Ok r) × (now ≡ grown before (output r))
+IsReported before now content = (r : Reading) × (reading content ≡ Ok r) × (now ≡ grown before (output r)) × IsKeptRun r
 
 -- The content spells a schedule, and a prefix of its output went out.
 abbrev pub IsCutShort : Option (List ℕ) → Option (List ℕ) → List ℕ → Type 0

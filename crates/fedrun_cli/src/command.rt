@@ -3,7 +3,7 @@ ghost use Rattle.std.specs.Prelude.{◌≡◌, ◌≤◌, [], length, vec_len, f
 ghost use Rattle.fed_schedule.specs.Schedule.{Reading, reading, reading_of};
 ghost use Rattle.fedrun_cli.specs.Endings.{status_of, error_line, Took};
 ghost use Rattle.fedrun_cli.specs.Ends.{Outside, EndsRun};
-ghost use Rattle.fedrun_cli.specs.Outcomes.{HasFile, LoadEnds, ReadEnds, Explains, output};
+ghost use Rattle.fedrun_cli.specs.Outcomes.{HasFile, LoadEnds, ReadEnds, Explains, IsKeptRun, output};
 
 use crate::ending::{Ending, say, status_of};
 use crate::report::{ReplayFault, report};
@@ -57,13 +57,14 @@ fn script_of(alloc: Global, bytes: &[u8]) -> Result<Script, Ending>
 /// The output of the run that the octets spell.
 fn output_of(alloc: Global, bytes: &[u8]) -> Result<Page, Ending>
     requires { length bytes.now ≤ MAX_FILE }
-    ensures output { IfOk result (λ page. (r : Reading) × (reading bytes.now ≡ Ok r) × (page ≡ output r)) }
+    ensures output { IfOk result (λ page. (r : Reading) × (reading bytes.now ≡ Ok r) × (page ≡ output r) × IsKeptRun r) }
     ensures ending { IfErr result (ReadEnds bytes.now) }
 {
     let script = script_of(alloc, bytes)?;
     if script.brokers.len() > MAX_PLACES {
         return Err(Ending::Places);
     }
+    kept();
     match report(alloc, script.brokers.as_slice(), script.events.as_slice()) {
         Ok(page) => Ok(page),
         Err(ReplayFault::Entries { line }) => Err(Ending::Entries { line }),

@@ -1,0 +1,11 @@
+pub mod Causes
+pub mod Held
+pub mod Inversions
+pub mod Lists
+pub mod Moved
+pub mod RowCaused
+pub mod RowHas
+pub mod RunKept
+pub mod Spares
+pub mod Stages
+pub mod Stored

@@ -1,0 +1,255 @@
+-- Each event appends entries that have their causes.
+use Rattle.std.proofs.Common.{◌≡◌, ℕ, ◌+◌, ◌-◌, ◌<◌, List, [], ◌∷◌, ◌++◌, length, Bool, true, false, Option, Some, None, arith, refl, sym, ap, subst, append_assoc}
+use Rattle.std.specs.Prelude.{Ok, Err, not, cond, find, filter, filter_map, position, option_map, nat_le, nat_lt}
+use Rattle.std.specs.List.{list_any}
+use Rattle.std.proofs.lemmas.Bool.{and_from, le-leb, lt-ltb}
+use Rattle.std.proofs.lemmas.Option.{none-some, same_Some}
+use Rattle.fed_journal.specs.declared.place.Place.{Place}
+use Rattle.fed_journal.specs.declared.event.Event.{Event}
+use Rattle.fed_journal.specs.declared.event.Event.TheVariants.{DeclareQueue, Publish, Flush, SetShovel, Open, Take, Send, Accept, Confirm, Note, Settle, Show}
+use Rattle.fed_journal.specs.declared.event.Shovel.{Shovel}
+use Rattle.fed_journal.specs.declared.link.LinkSpec.{LinkSpec}
+use Rattle.fed_journal.specs.declared.link.StartState.{StartState}
+use Rattle.fed_journal.specs.declared.link.StartState.TheVariants.{Start, NoBroker, NameTooLong}
+use Rattle.fed_journal.specs.declared.entry.Publication.{Publication}
+use Rattle.fed_journal.specs.declared.entry.Entry.{Entry}
+use Rattle.fed_journal.specs.declared.entry.Entry.TheVariants.{MadeQueue, Published, Flushed, Took, Sent, Confirmed, Noted, Opened, ShovelSet}
+use Rattle.fed_journal.specs.Configuration.{is_broker}
+use Rattle.fed_journal.specs.Names.{same_text, same_place}
+use Rattle.fed_journal.specs.Copies.{enters, entered, entered_by, is_copy_of, is_secured, publication_of}
+use Rattle.fed_journal.specs.Flight.{has, taken_by, sent_by, published_from, published_by, confirmed_to, noted_by, settled_for, confirmed_copy, flight_took, flight_sent, flight_published, flight_confirmed, flight_noted}
+use Rattle.fed_journal.specs.Holds.{is_ready, first_ready, ready_count}
+use Rattle.fed_journal.specs.Links.{link_of, links_of, is_named, is_shovel_set}
+use Rattle.fed_journal.specs.Phases.{phase, session, is_open}
+use Rattle.fed_world.specs.declared.reason.Reason.TheVariants as why
+use Rattle.fed_world.specs.Row.{oldest}
+use Rattle.fed_world.specs.Declare.{declare_row, stands, is_refused, lasting}
+use Rattle.fed_world.specs.Publish.{publish_row}
+use Rattle.fed_world.specs.Flush.{flush_row}
+use Rattle.fed_world.specs.SetShovel.{set_shovel_row}
+use Rattle.fed_world.specs.Open.{open_row, opened, open_if_startable, made_if, is_target_missing}
+use Rattle.fed_world.specs.Take.{take_row, first_ready_at}
+use Rattle.fed_world.specs.Send.{send_row}
+use Rattle.fed_world.specs.Accept.{accept_row, accept_first, accepted}
+use Rattle.fed_world.specs.Confirm.{confirm_row, confirm_first, confirmed}
+use Rattle.fed_world.specs.Note.{note_row}
+use Rattle.fed_world.specs.Settle.{settle_row}
+use Rattle.fed_world.specs.Step.{next}
+use Rattle.run_laws.specs.Kept.{StandsAfter, IsPublishedFor}
+use Rattle.run_laws.proofs.Causes.{EachCaused, WasConfirmed, WasNoted}
+use Rattle.run_laws.proofs.Inversions.{same_text-true, taken_by-is, sent_by-is, noted_by-is, confirmed_copy-is, Confirms, publishes-is, Publishes}
+use Rattle.run_laws.proofs.Lists.{IsIn, Split, first-in, find-in, filter-in, filter_map-in, any-middle}
+use Rattle.run_laws.proofs.RowHas.{RowHas, either-has, at_place-has, with_link-has, while_open-has, one_or_empty-has}
+use Rattle.run_laws.proofs.Stored.{position-within}
+
+-- the place of an entry that is known to be another
+stands-as : (J : List Entry) (P : Entry → Type 0) (e : Entry) (s : Split P J) → s.at ≡ e → StandsAfter s.before e J
+stands-as J P e s same = (s.rest, subst (λ d. J ≡ s.before ++ d ∷ s.rest) same s.whole)
+
+-- the first of a stage's list has passed its test, and stands in the journal
+first-split : (f : Entry → Option ℕ) (p : ℕ → Bool) (c : ℕ) (J : List Entry) → oldest (filter p (filter_map f J)) ≡ Some c → (p c ≡ true) × Split (λ e. f e ≡ Some c) J
+first-split f p c J h =
+    let found : (p c ≡ true) × IsIn c (filter_map f J) = filter-in p c (filter_map f J) (first-in c (filter p (filter_map f J)) h) in
+    (found.0, filter_map-in f c J found.1)
+
+sent-cause : (J : List Entry) (l : List ℕ) (s c : ℕ) → oldest (flight_took J l s) ≡ Some c → (before : List Entry) × StandsAfter before (Took l s c) J
+unfolding flight_took
+sent-cause J l s c h =
+    let found : Split (λ e. taken_by l s e ≡ Some c) J = (first-split (taken_by l s) (λ d. not (has (sent_by l s) d J)) c J h).1 in
+    (found.before, stands-as J (λ e. taken_by l s e ≡ Some c) (Took l s c) found (taken_by-is l s c found.at found.holds))
+
+accept-cause : (J : List Entry) (l : List ℕ) (s c : ℕ) → oldest (flight_sent J l s) ≡ Some c → (before : List Entry) × StandsAfter before (Sent l s c) J
+unfolding flight_sent
+accept-cause J l s c h =
+    let found : Split (λ e. sent_by l s e ≡ Some c) J = (first-split (sent_by l s) (λ d. not (has (published_from l s) d J)) c J h).1 in
+    (found.before, stands-as J (λ e. sent_by l s e ≡ Some c) (Sent l s c) found (sent_by-is l s c found.at found.holds))
+
+note-cause : (J : List Entry) (l : List ℕ) (s c : ℕ) → oldest (flight_confirmed J l s) ≡ Some c → WasConfirmed J l s c
+unfolding flight_confirmed
+note-cause J l s c h =
+    let found : Split (λ e. confirmed_copy J l s e ≡ Some c) J = (first-split (confirmed_copy J l s) (λ d. not (has (noted_by l s) d J)) c J h).1 in
+    let confirms : Confirms J l s c found.at = confirmed_copy-is J l s c found.at found.holds in
+    record {
+      before = found.before;
+      number = confirms.number;
+      publication = confirms.publication;
+      confirmed = stands-as J (λ e. confirmed_copy J l s e ≡ Some c) (Confirmed l s confirms.number) found confirms.entry;
+      found = confirms.found;
+      by = confirms.by;
+    }
+
+not-has : (b : Bool) → not b ≡ true → b ≡ false
+not-has true h = sym h
+not-has false h = refl
+
+settle-cause : (J : List Entry) (l : List ℕ) (s c : ℕ) (spec : LinkSpec) → link_of J l ≡ Some spec → oldest (flight_noted J l s) ≡ Some c → WasNoted J l s c
+unfolding flight_noted
+settle-cause J l s c spec d h =
+    let found : (not (has (settled_for l s) c J) ≡ true) × Split (λ e. noted_by l s e ≡ Some c) J = first-split (noted_by l s) (λ d. not (has (settled_for l s) d J)) c J h in
+    let at : Split (λ e. noted_by l s e ≡ Some c) J = found.1 in
+    record {
+      before = at.before;
+      spec = spec;
+      described = d;
+      noted = stands-as J (λ e. noted_by l s e ≡ Some c) (Noted l s c) at (noted_by-is l s c at.at at.holds);
+      still = not-has (has (settled_for l s) c J) found.0;
+    }
+
+-- a copy that a publication brought into a queue is one of its copies
+copy-of : (q : List ℕ) (x : Publication) (c : ℕ) (o : Option ℕ) → position (same_text q) x.queues ≡ o → option_map (λ k. x.first + k) o ≡ Some c → is_copy_of x c ≡ true
+copy-of q x c None e h = absurd (none-some c h)
+copy-of q x c (Some k) e h =
+    let number : x.first + k ≡ c = same_Some (x.first + k) c h in
+    let within : k < length x.queues = position-within (same_text q) x.queues k e in
+    and_from (nat_le x.first c) (nat_lt (c - x.first) (length x.queues)) (le-leb x.first c (omega (arith, number))) (lt-ltb (c - x.first) (length x.queues) (omega (arith, number, within)))
+
+copy-in : (b : Bool) (q : List ℕ) (x : Publication) (c : ℕ) → cond b (option_map (λ k. x.first + k) (position (same_text q) x.queues)) None ≡ Some c → is_copy_of x c ≡ true
+copy-in true q x c h = copy-of q x c (position (same_text q) x.queues) refl h
+copy-in false q x c h = absurd (none-some c h)
+
+entered_by-enters : (p : Place) (q : List ℕ) (c : ℕ) (e : Entry) → entered_by p q e ≡ Some c → enters c e ≡ true
+entered_by-enters p q c (Published x) h = copy-in (same_place x.place p) q x c h
+entered_by-enters p q c _ h = absurd (none-some c h)
+
+any-of : (f : Entry → Bool) (J : List Entry) (s : Split (λ e. f e ≡ true) J) → list_any f J ≡ true
+any-of f J s = subst (λ K. list_any f K ≡ true) (sym s.whole) (any-middle f s.at s.before s.rest s.holds)
+
+take-cause : (J : List Entry) (source : Option Place) (q : List ℕ) (c : ℕ) → first_ready_at J source q ≡ Some c → (list_any (enters c) J ≡ true) × (is_ready J c ≡ true)
+unfolding first_ready entered
+take-cause J None q c h = absurd (none-some c h)
+take-cause J (Some p) q c h =
+    let found : (is_ready J c ≡ true) × IsIn c (filter_map (entered_by p q) J) = find-in (is_ready J) c (filter_map (entered_by p q) J) h in
+    let at : Split (λ e. entered_by p q e ≡ Some c) J = filter_map-in (entered_by p q) c J found.1 in
+    (any-of (enters c) J (record { before = at.before; at = at.at; rest = at.rest; whole = at.whole; holds = entered_by-enters p q c at.at at.holds }), found.0)
+
+-- the link's description has its name
+named : (J : List Entry) (l : List ℕ) (spec : LinkSpec) → link_of J l ≡ Some spec → spec.name ≡ l
+unfolding link_of
+named J l spec h = same_text-true spec.name l (find-in (is_named l) spec (links_of J) h).0
+
+accepted-caused : (J : List Entry) (spec : LinkSpec) (c : ℕ) (target : Option Place) (x : Option Publication) → link_of J spec.name ≡ Some spec → (before : List Entry) × StandsAfter before (Sent spec.name (session J spec.name) c) J → publication_of c J ≡ x → RowHas (EachCaused J) (accepted J spec c target x)
+accepted-caused J spec c (Some target) (Some y) d sent e =
+    (record { before = sent.0; spec = spec; source = y; sent = sent.1; described = d; of_copy = e; message = refl }, tt)
+accepted-caused J spec c (Some target) None d sent e = tt
+accepted-caused J spec c None x d sent e = tt
+
+accept_first-caused : (J : List Entry) (spec : LinkSpec) (o : Option ℕ) → link_of J spec.name ≡ Some spec → oldest (flight_sent J spec.name (session J spec.name)) ≡ o → RowHas (EachCaused J) (accept_first J spec o)
+accept_first-caused J spec None d h = tt
+accept_first-caused J spec (Some c) d h =
+    accepted-caused J spec c spec.target (publication_of c J) d (accept-cause J spec.name (session J spec.name) c h) refl
+
+accept_spec-caused : (J : List Entry) (l : List ℕ) (spec : LinkSpec) → link_of J l ≡ Some spec → RowHas (EachCaused J) (accept_first J spec (oldest (flight_sent J l (session J l))))
+accept_spec-caused J l spec d =
+    accept_first-caused J spec (oldest (flight_sent J l (session J l)))
+    (subst (λ k. link_of J k ≡ Some spec) (sym (named J l spec d)) d)
+    (ap (λ k. oldest (flight_sent J k (session J k))) (named J l spec d))
+
+accept_row-caused : (J : List Entry) (l : List ℕ) → RowHas (EachCaused J) (accept_row J l)
+unfolding accept_row
+accept_row-caused J l = with_link-has (EachCaused J) J l _ (λ spec d. while_open-has (EachCaused J) J l _ (accept_spec-caused J l spec d))
+
+confirm-cause : (J : List Entry) (l : List ℕ) (s p : ℕ) → IsIn p (flight_published J l s) → IsPublishedFor J l s p
+unfolding flight_published
+confirm-cause J l s p h =
+    let at : Split (λ e. published_by l s e ≡ Some p) J = filter_map-in (published_by l s) p J (filter-in (λ q. not (has (confirmed_to l s) q J)) p (filter_map (published_by l s) J) h).1 in
+    let publishes : Publishes l s p at.at = publishes-is l s p at.at at.holds in
+    record {
+      at_published = at.before;
+      publication = publishes.publication;
+      copy = publishes.copy;
+      published = stands-as J (λ e. published_by l s e ≡ Some p) (Published publishes.publication) at publishes.entry;
+      number = publishes.number;
+      by = publishes.by;
+    }
+
+confirmed-caused : (J : List Entry) (l : List ℕ) (s : ℕ) (ps : List ℕ) (o : Option ℕ) → ((p : ℕ) → IsIn p ps → IsPublishedFor J l s p) → find (is_secured J) ps ≡ o → RowHas (EachCaused J) (confirmed l s o)
+confirmed-caused J l s ps None published h = tt
+confirmed-caused J l s ps (Some p) published h =
+    let found : (is_secured J p ≡ true) × IsIn p ps = find-in (is_secured J) p ps h in
+    ((found.0, published p found.1), tt)
+
+confirm_first-caused : (J : List Entry) (l : List ℕ) (s : ℕ) (ps : List ℕ) → ((p : ℕ) → IsIn p ps → IsPublishedFor J l s p) → RowHas (EachCaused J) (confirm_first J l s ps)
+confirm_first-caused J l s [] published = tt
+confirm_first-caused J l s (p ∷ ps) published = confirmed-caused J l s (p ∷ ps) (find (is_secured J) (p ∷ ps)) published refl
+
+confirm_row-caused : (J : List Entry) (l : List ℕ) → RowHas (EachCaused J) (confirm_row J l)
+unfolding confirm_row
+confirm_row-caused J l =
+    with_link-has (EachCaused J) J l _ (λ spec d. while_open-has (EachCaused J) J l _ (confirm_first-caused J l (session J l) (flight_published J l (session J l)) (confirm-cause J l (session J l))))
+
+take_row-caused : (J : List Entry) (l : List ℕ) → RowHas (EachCaused J) (take_row J l)
+unfolding take_row
+take_row-caused J l =
+    with_link-has (EachCaused J) J l _ (λ spec d. while_open-has (EachCaused J) J l _ (one_or_empty-has (EachCaused J) _ (first_ready_at J spec.source spec.source_queue) (λ c e. (take-cause J spec.source spec.source_queue c e, tt))))
+
+send_row-caused : (J : List Entry) (l : List ℕ) → RowHas (EachCaused J) (send_row J l)
+unfolding send_row
+send_row-caused J l =
+    with_link-has (EachCaused J) J l _ (λ spec d. while_open-has (EachCaused J) J l _ (one_or_empty-has (EachCaused J) _ (oldest (flight_took J l (session J l))) (λ c e. (sent-cause J l (session J l) c e, tt))))
+
+note_row-caused : (J : List Entry) (l : List ℕ) → RowHas (EachCaused J) (note_row J l)
+unfolding note_row
+note_row-caused J l =
+    with_link-has (EachCaused J) J l _ (λ spec d. while_open-has (EachCaused J) J l _ (one_or_empty-has (EachCaused J) _ (oldest (flight_confirmed J l (session J l))) (λ c e. (note-cause J l (session J l) c e, tt))))
+
+settle_row-caused : (J : List Entry) (l : List ℕ) → RowHas (EachCaused J) (settle_row J l)
+unfolding settle_row
+settle_row-caused J l =
+    with_link-has (EachCaused J) J l _ (λ spec d. while_open-has (EachCaused J) J l _ (one_or_empty-has (EachCaused J) _ (oldest (flight_noted J l (session J l))) (λ c e. (settle-cause J l (session J l) c spec d e, tt))))
+
+flush_row-caused : (J : List Entry) (b : List ℕ) → RowHas (EachCaused J) (flush_row J b)
+unfolding flush_row
+flush_row-caused J b = either-has (EachCaused J) (is_broker J b) (Ok (Flushed b ∷ [])) (Err why.NoPlace) (tt, tt) tt
+
+publish_row-caused : (J : List Entry) (p : Place) (client : ℕ) (key body : List ℕ) (persistent : Bool) → RowHas (EachCaused J) (publish_row J p client key body persistent)
+unfolding publish_row
+publish_row-caused J p client key body persistent = at_place-has (EachCaused J) J p _ (tt, tt)
+
+set_shovel_row-caused : (J : List Entry) (p : Place) (name : List ℕ) (shovel : Shovel) → RowHas (EachCaused J) (set_shovel_row J p name shovel)
+unfolding set_shovel_row
+set_shovel_row-caused J p name shovel =
+    at_place-has (EachCaused J) J p _ (either-has (EachCaused J) (is_shovel_set J p name) (Ok []) (Ok (ShovelSet p name shovel ∷ [])) tt (tt, tt))
+
+declare_row-caused : (J : List Entry) (p : Place) (q : List ℕ) → RowHas (EachCaused J) (declare_row J p q)
+unfolding declare_row
+declare_row-caused J p q =
+    at_place-has (EachCaused J) J p _ (either-has (EachCaused J) (is_refused J p q) _ _ tt
+    (either-has (EachCaused J) (stands J p q) (Ok []) (Ok (MadeQueue p q lasting ∷ [])) tt (tt, tt)))
+
+-- a declaration needs nothing
+made_if-caused : (J : List Entry) (missing : Bool) (p : Place) (q : List ℕ) (es : List Entry) → ((K : List Entry) → EachCaused K es) → EachCaused J (made_if missing p q ++ es)
+made_if-caused J true p q es h = (tt, h (J ++ MadeQueue p q lasting ∷ []))
+made_if-caused J false p q es h = h J
+
+opened-caused : (J : List Entry) (spec : LinkSpec) (source target : Option Place) → RowHas (EachCaused J) (opened J spec source target)
+opened-caused J spec (Some source) (Some target) =
+    subst (EachCaused J) (sym (append_assoc (made_if (not (stands J source spec.source_queue)) source spec.source_queue) (made_if (is_target_missing J spec source target) target spec.target_queue) (Opened spec.name (session J spec.name + 1) (ready_count J source spec.source_queue) ∷ [])))
+    (made_if-caused J (not (stands J source spec.source_queue)) source spec.source_queue _
+    (λ K. made_if-caused K (is_target_missing J spec source target) target spec.target_queue _ (λ L. (tt, tt))))
+opened-caused J spec (Some source) None = tt
+opened-caused J spec None target = tt
+
+open_if_startable-caused : (J : List Entry) (spec : LinkSpec) (state : StartState) → RowHas (EachCaused J) (open_if_startable J spec state)
+open_if_startable-caused J spec NoBroker = tt
+open_if_startable-caused J spec NameTooLong = tt
+open_if_startable-caused J spec Start =
+    either-has (EachCaused J) (is_open (phase J spec.name)) (Err why.Live) (opened J spec spec.source spec.target) tt (opened-caused J spec spec.source spec.target)
+
+open_row-caused : (J : List Entry) (l : List ℕ) → RowHas (EachCaused J) (open_row J l)
+unfolding open_row
+open_row-caused J l = with_link-has (EachCaused J) J l _ (λ spec d. open_if_startable-caused J spec spec.start)
+
+-- whatever the event
+pub next-caused : (J : List Entry) (e : Event) → RowHas (EachCaused J) (next J e)
+next-caused J (DeclareQueue p c q) = declare_row-caused J p q
+next-caused J (Publish p c key body persistent) = publish_row-caused J p c key body persistent
+next-caused J (Flush b) = flush_row-caused J b
+next-caused J (SetShovel p name shovel) = set_shovel_row-caused J p name shovel
+next-caused J (Open l) = open_row-caused J l
+next-caused J (Take l) = take_row-caused J l
+next-caused J (Send l) = send_row-caused J l
+next-caused J (Accept l) = accept_row-caused J l
+next-caused J (Confirm l) = confirm_row-caused J l
+next-caused J (Note l) = note_row-caused J l
+next-caused J (Settle l) = settle_row-caused J l
+next-caused J Show = tt

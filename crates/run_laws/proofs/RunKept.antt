@@ -1,0 +1,46 @@
+-- Every run is kept.
+use Rattle.std.proofs.Common.{ℕ, List, [], ◌∷◌, ◌++◌}
+use Rattle.std.specs.Prelude.{Ok, Err}
+use Rattle.fed_journal.specs.declared.event.Event.{Event}
+use Rattle.fed_journal.specs.declared.entry.Entry.{Entry}
+use Rattle.fed_world.specs.Row.{Row}
+use Rattle.fed_world.specs.Step.{next, after}
+use Rattle.fed_world.specs.Run.{begin, begun, run}
+use Rattle.run_laws.specs.Kept.{IsKept, EachMoment, HoldsTaken, last_journal}
+use Rattle.run_laws.proofs.Causes.{EachCaused, caused-append}
+use Rattle.run_laws.proofs.Held.{held-at, holds-at}
+use Rattle.run_laws.proofs.Moved.{moved-at}
+use Rattle.run_laws.proofs.RowCaused.{next-caused}
+use Rattle.run_laws.proofs.RowHas.{RowHas}
+use Rattle.run_laws.proofs.Stages.{follows-stages}
+use Rattle.run_laws.proofs.Stored.{run-keeps_stored}
+
+begin-caused : (K : List Entry) (brokers : List (List ℕ)) → EachCaused K (begin brokers)
+begin-caused K [] = tt
+begin-caused K (b ∷ bs) = (tt, begin-caused (K ++ begun b ∷ []) bs)
+
+after-caused : (J : List Entry) (row : Row) → EachCaused [] J → RowHas (EachCaused J) row → EachCaused [] (after J row)
+after-caused J (Ok es) caused h = caused-append [] J es caused h
+after-caused J (Err reason) caused h = caused
+
+last-caused : (J : List Entry) (events : List (ℕ × Event)) → EachCaused [] J → EachCaused [] (last_journal J (run J events))
+last-caused J [] caused = caused
+last-caused J (e ∷ es) caused = last-caused (after J (next J e.1)) es (after-caused J (next J e.1) caused (next-caused J e.1))
+
+each-holds : (J : List Entry) (events : List (ℕ × Event)) → EachCaused [] J → EachMoment (λ K m. HoldsTaken m.journal) J (run J events)
+each-holds J [] caused = tt
+each-holds J (e ∷ es) caused =
+    let later : EachCaused [] (after J (next J e.1)) = after-caused J (next J e.1) caused (next-caused J e.1) in
+    (holds-at (after J (next J e.1)) later, each-holds (after J (next J e.1)) es later)
+
+pub run-kept : (brokers : List (List ℕ)) (events : List (ℕ × Event)) → IsKept (begin brokers) (run (begin brokers) events)
+run-kept brokers events =
+    let J : List Entry = last_journal (begin brokers) (run (begin brokers) events) in
+    let caused : EachCaused [] J = last-caused (begin brokers) events (begin-caused [] brokers) in
+    record {
+      stored = run-keeps_stored (begin brokers) events;
+      moved = λ K l s c stands mode. moved-at J caused K l s c stands;
+      held = held-at J caused;
+      holds = each-holds (begin brokers) events (begin-caused [] brokers);
+      stages = follows-stages J caused;
+    }
