@@ -1,6 +1,7 @@
 pub mod Causes
 pub mod Held
 pub mod Inversions
+pub mod LinkNames
 pub mod Lists
 pub mod Moved
 pub mod RowCaused
