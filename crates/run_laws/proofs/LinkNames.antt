@@ -1,5 +1,5 @@
 -- Two shovels have links of one name only where their brokers and names are the same.
-use Rattle.std.proofs.Common.{◌≡◌, ℕ, ◌+◌, ◌*◌, ◌/◌, ◌%◌, ◌<◌, ◌≤◌, List, [], ◌∷◌, ◌++◌, Bool, true, false, arith, refl, sym, ap, ap₂, subst, ◌∙◌, append_assoc, append-nil, div-add-mod', get_or}
+use Rattle.std.proofs.Common.{◌≡◌, ℕ, ◌+◌, ◌*◌, ◌/◌, ◌%◌, List, [], ◌∷◌, ◌++◌, Bool, true, false, arith, refl, sym, ap, ap₂, subst, ◌∙◌, append_assoc, div-add-mod', get_or}
 use Rattle.std.specs.Prelude.{cond, nat_lt, flat_map, drop, codes}
 use Rattle.std.proofs.lemmas.Bool.{true≢false, false≢true, ltb-true, ltb-false}
 use Rattle.fed_journal.specs.declared.place.Place.{Place}
