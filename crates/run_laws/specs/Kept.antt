@@ -61,7 +61,7 @@ pub record IsMoved (J : List Entry) (l : List ℕ) (s c : ℕ) : Type 0 where
   pub at_published : List Entry
   pub at_confirmed : List Entry
   pub at_noted : List Entry
-  -- what the target published for it, what the copy belongs to, and the link's description when the session was opened
+  -- what the target published for it, what the copy belongs to, and, when the session was opened, the link's description and how many copies were ready
   pub publication : Publication
   pub source : Publication
   pub spec : LinkSpec
