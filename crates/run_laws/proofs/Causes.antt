@@ -1,17 +1,20 @@
 -- What each entry needs in the journal before it.
-use Rattle.std.proofs.Common.{◌≡◌, ℕ, List, [], ◌∷◌, ◌++◌, true, false, Some, sym, subst, append_assoc, append-nil}
-use Rattle.std.specs.List.{list_any}
+use Rattle.std.proofs.Common.{Bool, ◌≡◌, ℕ, List, [], ◌∷◌, ◌++◌, true, false, Some, sym, subst, append_assoc, append-nil}
+use Rattle.std.specs.List.{list_any, list_all}
+use Rattle.std.specs.Prelude.{codes}
 use Rattle.fed_journal.specs.declared.link.LinkSpec.{LinkSpec}
 use Rattle.fed_journal.specs.declared.entry.Publisher.{Publisher}
 use Rattle.fed_journal.specs.declared.entry.Publisher.TheVariants.{Client, Link}
 use Rattle.fed_journal.specs.declared.entry.Publication.{Publication}
 use Rattle.fed_journal.specs.declared.entry.Entry.{Entry}
-use Rattle.fed_journal.specs.declared.entry.Entry.TheVariants.{Took, Sent, Published, Confirmed, Noted, Settled}
+use Rattle.fed_journal.specs.declared.entry.Entry.TheVariants.{Begun, Opened, ShovelSet, Took, Sent, Published, Confirmed, Noted, Settled}
 use Rattle.fed_journal.specs.Copies.{enters, is_secured, find_publication, publication_of}
 use Rattle.fed_journal.specs.Flight.{has, settled_for}
 use Rattle.fed_journal.specs.Holds.{is_ready}
-use Rattle.fed_journal.specs.Links.{link_of}
+use Rattle.fed_journal.specs.Links.{link_of, is_shovel_set}
+use Rattle.fed_journal.specs.Names.{same_text}
 use Rattle.fed_journal.specs.Outgoing.{outgoing}
+use Rattle.run_laws.proofs.LastOpened.{WasOpened}
 use Rattle.run_laws.specs.Kept.{StandsAfter, IsPublishedFor}
 
 -- the copy was sent on by the session, and the message is what its link publishes for it
@@ -45,8 +48,16 @@ abbrev pub CausedBy : List Entry → Publication → Publisher → Type 0
 CausedBy K x (Client connection channel) = Unit {0}
 CausedBy K x (Link l s c) = PublishesCopy K x l s c
 
+-- a broker's beginning
+abbrev pub is_begun : Entry → Bool
+is_begun (Begun broker cluster kept) = true
+is_begun _ = false
+
 abbrev pub Caused : List Entry → Entry → Type 0
-Caused K (Took l s c) = (list_any (enters c) K ≡ true) × (is_ready K c ≡ true)
+Caused K (Begun broker cluster kept) = list_all is_begun K ≡ true
+Caused K (ShovelSet place name shovel) = (same_text place.vhost (codes "/") ≡ true) × (is_shovel_set K place name ≡ false)
+Caused K (Opened l s ready) = (spec : LinkSpec) × (link_of K l ≡ Some spec)
+Caused K (Took l s c) = (list_any (enters c) K ≡ true) × (is_ready K c ≡ true) × WasOpened K l s
 Caused K (Sent l s c) = (before : List Entry) × StandsAfter before (Took l s c) K
 Caused K (Published x) = CausedBy K x x.by
 Caused K (Confirmed l s p) = (is_secured K p ≡ true) × IsPublishedFor K l s p

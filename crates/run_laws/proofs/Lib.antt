@@ -1,6 +1,9 @@
 pub mod Causes
+pub mod Described
 pub mod Held
 pub mod Inversions
+pub mod LastOpened
+pub mod LinkNames
 pub mod Lists
 pub mod Moved
 pub mod RowCaused

@@ -1,6 +1,6 @@
 -- Where an element stands in a list.
 use Rattle.std.proofs.Common.{◌≡◌, List, [], ◌∷◌, ◌++◌, Bool, true, false, Option, Some, None, refl, sym, subst, ap, ◌⊎◌, inl, inr}
-use Rattle.std.specs.Prelude.{◌||◌, cond, slice_get, find, filter, filter_map}
+use Rattle.std.specs.Prelude.{flat_map, ◌||◌, cond, slice_get, find, filter, filter_map}
 use Rattle.std.specs.List.{list_any, cons_option}
 use Rattle.std.proofs.lemmas.Bool.{false≢true, or_right}
 use Rattle.std.proofs.lemmas.Option.{none-some, same_Some}
@@ -89,3 +89,17 @@ in-split x (y ∷ ys) (inl e) = ([], ys, ap (λ z. z ∷ ys) e)
 in-split {X} x (y ∷ ys) (inr h) =
     let s : (before : List X) × (rest : List X) × (ys ≡ before ++ x ∷ rest) = in-split x ys h in
     (y ∷ s.0, s.1, ap (λ zs. y ∷ zs) s.2)
+
+pub in-append_cases : {X : Type 0} (x : X) (xs ys : List X) → IsIn x (xs ++ ys) → IsIn x xs ⊎ IsIn x ys
+in-append_cases x [] ys h = inr h
+in-append_cases x (z ∷ xs) ys (inl e) = inl (inl e)
+in-append_cases x (z ∷ xs) ys (inr h) = elim (in-append_cases x xs ys h) [ inl k ↦ inl (inr k) | inr k ↦ inr k ]
+
+flat-by : {X Y : Type 0} (g : X → List Y) (y : Y) (x : X) (xs : List X) → IsIn y (g x) ⊎ IsIn y (flat_map g xs) → (IsIn y (flat_map g xs) → Split (λ z. IsIn y (g z)) xs) → Split (λ z. IsIn y (g z)) (x ∷ xs)
+flat-by g y x xs (inl h) later = split-head (λ z. IsIn y (g z)) x xs h
+flat-by g y x xs (inr h) later = split-cons (λ z. IsIn y (g z)) x xs (later h)
+
+-- what joined lists hold comes from one of them
+pub in-flat : {X Y : Type 0} (g : X → List Y) (y : Y) (xs : List X) → IsIn y (flat_map g xs) → Split (λ z. IsIn y (g z)) xs
+in-flat g y [] h = absurd h
+in-flat g y (x ∷ xs) h = flat-by g y x xs (in-append_cases y (g x) (flat_map g xs) h) (in-flat g y xs)

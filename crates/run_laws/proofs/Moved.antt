@@ -8,6 +8,11 @@ use Rattle.fed_journal.specs.declared.entry.Entry.{Entry}
 use Rattle.fed_journal.specs.declared.entry.Entry.TheVariants.{Took, Sent, Published, Confirmed, Noted, Settled}
 use Rattle.fed_journal.specs.declared.entry.Publisher.TheVariants.{Link}
 use Rattle.fed_journal.specs.Copies.{find_publication, is_secured, is_secured_at}
+use Rattle.fed_journal.specs.declared.link.LinkSpec.{LinkSpec}
+use Rattle.fed_journal.specs.declared.entry.Entry.TheVariants.{Opened}
+use Rattle.fed_journal.specs.Links.{link_of}
+use Rattle.run_laws.proofs.Described.{described-later}
+use Rattle.run_laws.proofs.LastOpened.{WasOpened}
 use Rattle.run_laws.specs.Kept.{StandsAfter, IsConfirmedFor, IsMoved}
 use Rattle.run_laws.proofs.Causes.{Caused, CausedBy, EachCaused, PublishesCopy, WasConfirmed, WasNoted, caused-at}
 
@@ -62,7 +67,14 @@ moved-published : (J at_noted at_confirmed at_published : List Entry) (l : List 
 moved-published J at_noted at_confirmed at_published l s c x noted confirmed published by found secured caused p =
     let sent : EachCaused [] p.before × Caused p.before (Sent l s c) = caused-at at_published p.before (Sent l s c) caused p.sent in
     let took : (before : List Entry) × StandsAfter before (Took l s c) p.before = sent.1 in
+    let at : EachCaused [] took.0 × Caused took.0 (Took l s c) = caused-at p.before took.0 (Took l s c) sent.0 took.1 in
+    let opened : WasOpened took.0 l s = at.1.2 in
+    let cause : (spec : LinkSpec) × (link_of opened.0 l ≡ Some spec) = (caused-at took.0 opened.0 (Opened l s opened.1) at.0 opened.2).1 in
+    let later : link_of at_published l ≡ Some cause.0 = described-later p.before (Sent l s c) at_published l cause.0 caused p.sent refl (described-later took.0 (Took l s c) p.before l cause.0 sent.0 took.1 refl (described-later opened.0 (Opened l s opened.1) took.0 l cause.0 at.0 opened.2 refl cause.1)) in
     record {
+      at_opened = opened.0;
+      ready = opened.1;
+      opened = opened.2;
       at_took = took.0;
       at_sent = p.before;
       at_published = at_published;
@@ -77,7 +89,7 @@ moved-published J at_noted at_confirmed at_published l s c x noted confirmed pub
       confirmed = confirmed;
       noted = noted;
       by = by;
-      described = p.described;
+      described = cause.1 ∙ sym later ∙ p.described;
       of_copy = p.of_copy;
       message = p.message;
       found = found;

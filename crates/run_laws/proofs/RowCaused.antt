@@ -39,7 +39,13 @@ use Rattle.run_laws.specs.Kept.{StandsAfter, IsPublishedFor}
 use Rattle.run_laws.proofs.Causes.{EachCaused, WasConfirmed, WasNoted}
 use Rattle.run_laws.proofs.Inversions.{same_text-true, taken_by-is, sent_by-is, noted_by-is, confirmed_copy-is, Confirms, publishes-is, Publishes}
 use Rattle.run_laws.proofs.Lists.{IsIn, Split, first-in, find-in, filter-in, filter_map-in, any-middle}
-use Rattle.run_laws.proofs.RowHas.{RowHas, either-has, at_place-has, with_link-has, while_open-has, one_or_empty-has}
+use Rattle.run_laws.proofs.Described.{link_of-made}
+use Rattle.run_laws.proofs.LastOpened.{last-opened}
+use Rattle.std.proofs.Common.{◌∙◌}
+use Rattle.std.specs.Prelude.{codes}
+use Rattle.std.proofs.lemmas.Bool.{and_parts}
+use Rattle.fed_journal.specs.Configuration.{is_place}
+use Rattle.run_laws.proofs.RowHas.{if_not-has, at_known_place-has, while_known_open-has, RowHas, either-has, at_place-has, with_link-has, while_open-has, one_or_empty-has}
 use Rattle.run_laws.proofs.Stored.{position-within}
 
 -- the place of an entry that is known to be another
@@ -177,10 +183,15 @@ unfolding confirm_row
 confirm_row-caused J l =
     with_link-has (EachCaused J) J l _ (λ spec d. while_open-has (EachCaused J) J l _ (confirm_first-caused J l (session J l) (flight_published J l (session J l)) (confirm-cause J l (session J l))))
 
+took-caused : (J : List Entry) (l : List ℕ) (spec : LinkSpec) (c : ℕ) → is_open (phase J l) ≡ true → first_ready_at J spec.source spec.source_queue ≡ Some c → EachCaused J (Took l (session J l) c ∷ [])
+took-caused J l spec c open' e =
+    let found : (list_any (enters c) J ≡ true) × (is_ready J c ≡ true) = take-cause J spec.source spec.source_queue c e in
+    ((found.0, found.1, last-opened J l open'), tt)
+
 take_row-caused : (J : List Entry) (l : List ℕ) → RowHas (EachCaused J) (take_row J l)
 unfolding take_row
 take_row-caused J l =
-    with_link-has (EachCaused J) J l _ (λ spec d. while_open-has (EachCaused J) J l _ (one_or_empty-has (EachCaused J) _ (first_ready_at J spec.source spec.source_queue) (λ c e. (take-cause J spec.source spec.source_queue c e, tt))))
+    with_link-has (EachCaused J) J l _ (λ spec d. while_known_open-has (EachCaused J) J l _ (λ open'. one_or_empty-has (EachCaused J) _ (first_ready_at J spec.source spec.source_queue) (λ c e. took-caused J l spec c open' e)))
 
 send_row-caused : (J : List Entry) (l : List ℕ) → RowHas (EachCaused J) (send_row J l)
 unfolding send_row
@@ -205,10 +216,14 @@ publish_row-caused : (J : List Entry) (p : Place) (client : ℕ) (key body : Lis
 unfolding publish_row
 publish_row-caused J p client key body persistent = at_place-has (EachCaused J) J p _ (tt, tt)
 
+place-vhost : (J : List Entry) (p : Place) → is_place J p ≡ true → same_text p.vhost (codes "/") ≡ true
+unfolding is_place
+place-vhost J p h = (and_parts (same_text p.vhost (codes "/")) (is_broker J p.broker) h).0
+
 set_shovel_row-caused : (J : List Entry) (p : Place) (name : List ℕ) (shovel : Shovel) → RowHas (EachCaused J) (set_shovel_row J p name shovel)
 unfolding set_shovel_row
 set_shovel_row-caused J p name shovel =
-    at_place-has (EachCaused J) J p _ (either-has (EachCaused J) (is_shovel_set J p name) (Ok []) (Ok (ShovelSet p name shovel ∷ [])) tt (tt, tt))
+    at_known_place-has (EachCaused J) J p _ (λ there. if_not-has (EachCaused J) (is_shovel_set J p name) (Ok []) (Ok (ShovelSet p name shovel ∷ [])) tt (λ fresh. ((place-vhost J p there, fresh), tt)))
 
 declare_row-caused : (J : List Entry) (p : Place) (q : List ℕ) → RowHas (EachCaused J) (declare_row J p q)
 unfolding declare_row
@@ -216,28 +231,29 @@ declare_row-caused J p q =
     at_place-has (EachCaused J) J p _ (either-has (EachCaused J) (is_refused J p q) _ _ tt
     (either-has (EachCaused J) (stands J p q) (Ok []) (Ok (MadeQueue p q lasting ∷ [])) tt (tt, tt)))
 
--- a declaration needs nothing
-made_if-caused : (J : List Entry) (missing : Bool) (p : Place) (q : List ℕ) (es : List Entry) → ((K : List Entry) → EachCaused K es) → EachCaused J (made_if missing p q ++ es)
-made_if-caused J true p q es h = (tt, h (J ++ MadeQueue p q lasting ∷ []))
-made_if-caused J false p q es h = h J
+-- a declaration needs nothing, and leaves links as they are
+made_if-caused : (J : List Entry) (l : List ℕ) (spec : LinkSpec) (missing : Bool) (p : Place) (q : List ℕ) (es : List Entry) → link_of J l ≡ Some spec → ((K : List Entry) → link_of K l ≡ Some spec → EachCaused K es) → EachCaused J (made_if missing p q ++ es)
+made_if-caused J l spec true p q es d h =
+    (tt, h (J ++ MadeQueue p q lasting ∷ []) (link_of-made J (MadeQueue p q lasting) l (λ b. refl) (λ K. refl) (λ K b. refl) ∙ d))
+made_if-caused J l spec false p q es d h = h J d
 
-opened-caused : (J : List Entry) (spec : LinkSpec) (source target : Option Place) → RowHas (EachCaused J) (opened J spec source target)
-opened-caused J spec (Some source) (Some target) =
+opened-caused : (J : List Entry) (spec : LinkSpec) (source target : Option Place) → link_of J spec.name ≡ Some spec → RowHas (EachCaused J) (opened J spec source target)
+opened-caused J spec (Some source) (Some target) d =
     subst (EachCaused J) (sym (append_assoc (made_if (not (stands J source spec.source_queue)) source spec.source_queue) (made_if (is_target_missing J spec source target) target spec.target_queue) (Opened spec.name (session J spec.name + 1) (ready_count J source spec.source_queue) ∷ [])))
-    (made_if-caused J (not (stands J source spec.source_queue)) source spec.source_queue _
-    (λ K. made_if-caused K (is_target_missing J spec source target) target spec.target_queue _ (λ L. (tt, tt))))
-opened-caused J spec (Some source) None = tt
-opened-caused J spec None target = tt
+    (made_if-caused J spec.name spec (not (stands J source spec.source_queue)) source spec.source_queue _ d
+    (λ K k. made_if-caused K spec.name spec (is_target_missing J spec source target) target spec.target_queue _ k (λ L m. ((spec, m), tt))))
+opened-caused J spec (Some source) None d = tt
+opened-caused J spec None target d = tt
 
-open_if_startable-caused : (J : List Entry) (spec : LinkSpec) (state : StartState) → RowHas (EachCaused J) (open_if_startable J spec state)
-open_if_startable-caused J spec NoBroker = tt
-open_if_startable-caused J spec NameTooLong = tt
-open_if_startable-caused J spec Start =
-    either-has (EachCaused J) (is_open (phase J spec.name)) (Err why.Live) (opened J spec spec.source spec.target) tt (opened-caused J spec spec.source spec.target)
+open_if_startable-caused : (J : List Entry) (spec : LinkSpec) (state : StartState) → link_of J spec.name ≡ Some spec → RowHas (EachCaused J) (open_if_startable J spec state)
+open_if_startable-caused J spec NoBroker d = tt
+open_if_startable-caused J spec NameTooLong d = tt
+open_if_startable-caused J spec Start d =
+    either-has (EachCaused J) (is_open (phase J spec.name)) (Err why.Live) (opened J spec spec.source spec.target) tt (opened-caused J spec spec.source spec.target d)
 
 open_row-caused : (J : List Entry) (l : List ℕ) → RowHas (EachCaused J) (open_row J l)
 unfolding open_row
-open_row-caused J l = with_link-has (EachCaused J) J l _ (λ spec d. open_if_startable-caused J spec spec.start)
+open_row-caused J l = with_link-has (EachCaused J) J l _ (λ spec d. open_if_startable-caused J spec spec.start (subst (λ k. link_of J k ≡ Some spec) (sym (named J l spec d)) d))
 
 -- whatever the event
 pub next-caused : (J : List Entry) (e : Event) → RowHas (EachCaused J) (next J e)

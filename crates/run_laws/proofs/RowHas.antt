@@ -19,6 +19,20 @@ pub either-has : (P : List Entry → Type 0) (b : Bool) (yes' no' : Row) → Row
 either-has P true yes' no' h k = h
 either-has P false yes' no' h k = k
 
+-- the same where the tests' answers are known
+if-has : (P : List Entry → Type 0) (b : Bool) (yes' no' : Row) → (b ≡ true → RowHas P yes') → (b ≡ false → RowHas P no') → RowHas P (if b then yes' else no')
+if-has P true yes' no' h k = h refl
+if-has P false yes' no' h k = k refl
+
+pub if_not-has : (P : List Entry → Type 0) (b : Bool) (yes' no' : Row) → RowHas P yes' → (b ≡ false → RowHas P no') → RowHas P (if b then yes' else no')
+if_not-has P b yes' no' h k = if-has P b yes' no' (λ e. h) k
+
+pub at_known_place-has : (P : List Entry → Type 0) (J : List Entry) (p : Place) (row : Row) → (is_place J p ≡ true → RowHas P row) → RowHas P (at_place J p row)
+at_known_place-has P J p row h = if-has P (is_place J p) row (Err NoPlace) h (λ e. tt)
+
+pub while_known_open-has : (P : List Entry → Type 0) (J : List Entry) (l : List ℕ) (row : Row) → (is_open (phase J l) ≡ true → RowHas P row) → RowHas P (while_open J l row)
+while_known_open-has P J l row h = if-has P (is_open (phase J l)) row (Err NotOpen) h (λ e. tt)
+
 pub at_place-has : (P : List Entry → Type 0) (J : List Entry) (p : Place) (row : Row) → RowHas P row → RowHas P (at_place J p row)
 at_place-has P J p row h = either-has P (is_place J p) row (Err NoPlace) h tt
 

@@ -1,13 +1,17 @@
 -- Every run is kept.
 use Rattle.std.proofs.Common.{ℕ, List, [], ◌∷◌, ◌++◌}
 use Rattle.std.specs.Prelude.{Ok, Err}
+use Rattle.std.proofs.Common.{◌≡◌, true, refl, ap, ◌∙◌}
+use Rattle.std.specs.Prelude.{◌&&◌}
+use Rattle.std.specs.List.{list_all}
+use Rattle.std.proofs.lemmas.List.Folds.{list_all-append}
 use Rattle.fed_journal.specs.declared.event.Event.{Event}
 use Rattle.fed_journal.specs.declared.entry.Entry.{Entry}
 use Rattle.fed_world.specs.Row.{Row}
 use Rattle.fed_world.specs.Step.{next, after}
 use Rattle.fed_world.specs.Run.{begin, begun, run}
 use Rattle.run_laws.specs.Kept.{IsKept, EachMoment, HoldsTaken, last_journal}
-use Rattle.run_laws.proofs.Causes.{EachCaused, caused-append}
+use Rattle.run_laws.proofs.Causes.{is_begun, EachCaused, caused-append}
 use Rattle.run_laws.proofs.Held.{held-at, holds-at}
 use Rattle.run_laws.proofs.Moved.{moved-at}
 use Rattle.run_laws.proofs.RowCaused.{next-caused}
@@ -15,9 +19,9 @@ use Rattle.run_laws.proofs.RowHas.{RowHas}
 use Rattle.run_laws.proofs.Stages.{follows-stages}
 use Rattle.run_laws.proofs.Stored.{run-keeps_stored}
 
-begin-caused : (K : List Entry) (brokers : List (List ℕ)) → EachCaused K (begin brokers)
-begin-caused K [] = tt
-begin-caused K (b ∷ bs) = (tt, begin-caused (K ++ begun b ∷ []) bs)
+begin-caused : (K : List Entry) (brokers : List (List ℕ)) → list_all is_begun K ≡ true → EachCaused K (begin brokers)
+begin-caused K [] h = tt
+begin-caused K (b ∷ bs) h = (h, begin-caused (K ++ begun b ∷ []) bs (list_all-append is_begun K (begun b ∷ []) ∙ ap (λ v. v && true) h))
 
 after-caused : (J : List Entry) (row : Row) → EachCaused [] J → RowHas (EachCaused J) row → EachCaused [] (after J row)
 after-caused J (Ok es) caused h = caused-append [] J es caused h
@@ -36,11 +40,11 @@ each-holds J (e ∷ es) caused =
 pub run-kept : (brokers : List (List ℕ)) (events : List (ℕ × Event)) → IsKept (begin brokers) (run (begin brokers) events)
 run-kept brokers events =
     let J : List Entry = last_journal (begin brokers) (run (begin brokers) events) in
-    let caused : EachCaused [] J = last-caused (begin brokers) events (begin-caused [] brokers) in
+    let caused : EachCaused [] J = last-caused (begin brokers) events (begin-caused [] brokers refl) in
     record {
       stored = run-keeps_stored (begin brokers) events;
       moved = λ K l s c stands mode. moved-at J caused K l s c stands;
       held = held-at J caused;
-      holds = each-holds (begin brokers) events (begin-caused [] brokers);
+      holds = each-holds (begin brokers) events (begin-caused [] brokers refl);
       stages = follows-stages J caused;
     }

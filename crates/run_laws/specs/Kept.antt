@@ -9,7 +9,7 @@ use Rattle.fed_journal.specs.declared.link.LinkSpec.{LinkSpec}
 use Rattle.fed_journal.specs.declared.entry.Publisher.TheVariants.{Link}
 use Rattle.fed_journal.specs.declared.entry.Publication.{Publication}
 use Rattle.fed_journal.specs.declared.entry.Entry.{Entry}
-use Rattle.fed_journal.specs.declared.entry.Entry.TheVariants.{Took, Sent, Published, Confirmed, Noted, Settled}
+use Rattle.fed_journal.specs.declared.entry.Entry.TheVariants.{Opened, Took, Sent, Published, Confirmed, Noted, Settled}
 use Rattle.fed_journal.specs.Copies.{enters, is_gone, is_stored, is_secured, find_publication, publication_of}
 use Rattle.fed_journal.specs.Holds.{Session, holder}
 use Rattle.fed_journal.specs.Links.{link_of}
@@ -55,16 +55,19 @@ is_on_confirm (Some spec) = is_mode_on_confirm spec.mode
 -- the way of a copy through the link's session, in this order (RabbitMQ, Shovel: ack-mode on-confirm; Publisher Confirms)
 pub record IsMoved (J : List Entry) (l : List ℕ) (s c : ℕ) : Type 0 where
   -- the journals before each step
+  pub at_opened : List Entry
   pub at_took : List Entry
   pub at_sent : List Entry
   pub at_published : List Entry
   pub at_confirmed : List Entry
   pub at_noted : List Entry
-  -- what the target published for it, what the copy belongs to, and the link's description then
+  -- what the target published for it, what the copy belongs to, and, when the session was opened, the link's description and how many copies were ready
   pub publication : Publication
   pub source : Publication
   pub spec : LinkSpec
-  -- the session took the copy, sent it on, the target published it and confirmed that, and the link acknowledged the copy
+  pub ready : ℕ
+  -- the session was opened, it took the copy, sent it on, the target published it and confirmed that, and the link acknowledged the copy
+  pub opened : StandsAfter at_opened (Opened l s ready) at_took
   pub took : StandsAfter at_took (Took l s c) at_sent
   pub sent : StandsAfter at_sent (Sent l s c) at_published
   pub published : StandsAfter at_published (Published publication) at_confirmed
@@ -72,7 +75,7 @@ pub record IsMoved (J : List Entry) (l : List ℕ) (s c : ℕ) : Type 0 where
   pub noted : StandsAfter at_noted (Noted l s c) J
   -- the publication is this session's of that copy, and its message is what the link publishes for the copy's message
   pub by : publication.by ≡ Link l s c
-  pub described : link_of at_published l ≡ Some spec
+  pub described : link_of at_opened l ≡ Some spec
   pub of_copy : publication_of c at_published ≡ Some source
   pub message : publication.message ≡ outgoing spec source.message
   -- when it was confirmed, it was the publication of its number, and the target had it secured
