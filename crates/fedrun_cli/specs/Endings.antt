@@ -6,7 +6,7 @@ use Rattle.fed_schedule.specs.declared.script.LineReason.{LineReason}
 use Rattle.fed_schedule.specs.declared.script.LineReason.TheVariants as why
 use Rattle.fed_outside.specs.Outside.{Rose, grown, GrownByPrefix}
 use Rattle.fedrun_cli.specs.declared.ending.Ending.{Ending}
-use Rattle.fedrun_cli.specs.declared.ending.Ending.TheVariants.{Done, Memory, Usage, Line, ReadFault, WriteFault, FileTooLong, Places, Entries, Absent}
+use Rattle.fedrun_cli.specs.declared.ending.Ending.TheVariants.{Done, Memory, Usage, Line, ReadFault, WriteFault, FileTooLong, Places, Absent}
 
 -- the exit status
 abbrev pub status_of : Ending → ℕ
@@ -18,7 +18,6 @@ status_of ReadFault = 5
 status_of WriteFault = 6
 status_of FileTooLong = 7
 status_of Places = 7
-status_of (Entries line) = 7
 status_of Absent = 8
 
 unfoldable pub line_reason_word : LineReason → List ℕ
@@ -39,9 +38,6 @@ word_line start name = start ++ word name ++ codes "\n"
 abbrev pub fault_line : List ℕ → ℕ → LineReason → List ℕ
 fault_line start line reason = start ++ decimal line ++ codes " " ++ line_reason_word reason ++ codes "\n"
 
-abbrev pub numbered_line : List ℕ → ℕ → List ℕ
-numbered_line start line = start ++ decimal line ++ codes "\n"
-
 -- the line of each ending, where FILE is printed as a word
 unfoldable pub error_line : Ending → List ℕ → List ℕ
 error_line Done file = []
@@ -52,7 +48,6 @@ error_line ReadFault file = word_line (codes "fedrun: read fault ") file
 error_line WriteFault file = codes "fedrun: write fault\n"
 error_line FileTooLong file = word_line (codes "fedrun: limit file ") file
 error_line Places file = codes "fedrun: limit places\n"
-error_line (Entries line) file = numbered_line (codes "fedrun: limit entries line ") line
 error_line Absent file = word_line (codes "fedrun: absent ") file
 
 -- A sink took the whole of the octets, or a prefix of them where its own count rose.

@@ -6,7 +6,7 @@ use Rattle.fed_outside.specs.Outside.{Rose, grown, GrownByPrefix}
 use Rattle.fed_world.specs.Run.{begin, run}
 use Rattle.run_laws.specs.Kept.{IsKept}
 use Rattle.fedrun_cli.specs.declared.ending.Ending.{Ending}
-use Rattle.fedrun_cli.specs.declared.ending.Ending.TheVariants.{Done, Memory, Usage, Line, ReadFault, WriteFault, FileTooLong, Places, Entries, Absent}
+use Rattle.fedrun_cli.specs.declared.ending.Ending.TheVariants.{Done, Memory, Usage, Line, ReadFault, WriteFault, FileTooLong, Places, Absent}
 use Rattle.fedrun_cli.specs.declared.command.TheConstants.{MAX_FILE, MAX_PLACES}
 use Rattle.fedrun_cli.specs.Report.{report}
 
@@ -57,7 +57,6 @@ abbrev pub ReadEnds : List ℕ → Ending → Type 0
 ReadEnds content Memory = Unit {0}
 ReadEnds content (Line line reason) = reading content ≡ Err (fault.Line line reason)
 ReadEnds content Places = HasManyPlaces content
-ReadEnds content (Entries line) = (r : Reading) × (reading content ≡ Ok r)
 ReadEnds content _ = ⊥
 
 -- What each ending of a run shows, where the output and the counts of faults were told before and are told now: `Done` that
@@ -78,6 +77,4 @@ Explains files name read_before read_now told_before told_now write_before write
     HasFile files name (λ content. reading content ≡ Err (fault.Line line reason)) × (told_now ≡ told_before)
 Explains files name read_before read_now told_before told_now write_before write_now Places =
     HasFile files name HasManyPlaces × (told_now ≡ told_before)
-Explains files name read_before read_now told_before told_now write_before write_now (Entries line) =
-    HasFile files name (λ content. (r : Reading) × (reading content ≡ Ok r)) × (told_now ≡ told_before)
 Explains files name read_before read_now told_before told_now write_before write_now Usage = ⊥

@@ -6,7 +6,7 @@ ghost use Rattle.fedrun_cli.specs.Ends.{Outside, EndsRun};
 ghost use Rattle.fedrun_cli.specs.Outcomes.{HasFile, LoadEnds, ReadEnds, Explains, IsKeptRun, output};
 
 use crate::ending::{Ending, say, status_of};
-use crate::report::{ReplayFault, report};
+use crate::report::report;
 use fed_journal::page::Page;
 use fed_outside::{Loaded, Shelf, Sink};
 use fed_schedule::schedule::read;
@@ -68,8 +68,7 @@ fn output_of(alloc: Global, bytes: &[u8]) -> Result<Page, Ending>
     kept();
     match report(alloc, script.brokers.as_slice(), script.events.as_slice()) {
         Ok(page) => Ok(page),
-        Err(ReplayFault::Entries { line }) => Err(Ending::Entries { line }),
-        Err(ReplayFault::Memory) => Err(Ending::Memory),
+        Err(_) => Err(Ending::Memory),
     }
 }
 

@@ -1,6 +1,6 @@
 //! How a command ends.
 ghost use Rattle.std.specs.Prelude.{◌≡◌, ◌++◌, OnOk, IfOk, List, ℕ, false};
-ghost use Rattle.fedrun_cli.specs.Endings.{status_of, line_reason_word, word_line, fault_line, numbered_line, error_line, needs_memory, Stands, Took};
+ghost use Rattle.fedrun_cli.specs.Endings.{status_of, line_reason_word, word_line, fault_line, error_line, needs_memory, Stands, Took};
 
 use fed_journal::page::Page;
 use fed_outside::Sink;
@@ -24,8 +24,6 @@ pub enum Ending {
     FileTooLong,
     /// The run has over 64 places.
     Places,
-    /// The event of that line would pass the journal's limit.
-    Entries { line: u32 },
     /// There is no such file.
     Absent,
 }
@@ -41,7 +39,7 @@ pub(crate) fn status_of(ending: Ending) -> u8
         Ending::Line { .. } => 4,
         Ending::ReadFault => 5,
         Ending::WriteFault => 6,
-        Ending::FileTooLong | Ending::Places | Ending::Entries { .. } => 7,
+        Ending::FileTooLong | Ending::Places => 7,
         Ending::Absent => 8,
     }
 }
@@ -90,15 +88,6 @@ fn push_fault_line(
     page.push("\n")
 }
 
-/// Appends a line that ends with a number.
-fn push_numbered_line(page: &mut Page, start: &str, line: u32) -> Result<(), AllocError>
-    ensures { OnOk result (page.new ≡ page.old ++ numbered_line start.now line) }
-{
-    page.push(start)?;
-    page.push_number(line as u64)?;
-    page.push("\n")
-}
-
 /// Appends what an ending says on the error sink; nothing where it is `Done`.
 #[tactic(auto, unfolding(crate::specs::Endings::error_line))]
 fn push_error_line(page: &mut Page, ending: Ending, file: &str) -> Result<(), AllocError>
@@ -118,7 +107,6 @@ fn push_error_line(page: &mut Page, ending: Ending, file: &str) -> Result<(), Al
         Ending::WriteFault => page.push("fedrun: write fault\n"),
         Ending::FileTooLong => push_word_line(page, "fedrun: limit file ", file),
         Ending::Places => page.push("fedrun: limit places\n"),
-        Ending::Entries { line } => push_numbered_line(page, "fedrun: limit entries line ", line),
         Ending::Absent => push_word_line(page, "fedrun: absent ", file),
     }
 }

@@ -99,26 +99,13 @@ fn push_moment(
     }
 }
 
-/// Why a run has no report.
-pub(crate) enum ReplayFault {
-    /// The event of that line would pass the journal's limit.
-    Entries { line: u32 },
-    Memory,
-}
-
-impl From<AllocError> for ReplayFault {
-    fn from(_: AllocError) -> Self {
-        ReplayFault::Memory
-    }
-}
-
 /// Does the events in order and appends what they print. Answers how many happened.
 fn push_moments(
     alloc: Global,
     page: &mut Page,
     world: &mut World,
     events: &[(u32, Event)],
-) -> Result<usize, ReplayFault>
+) -> Result<usize, AllocError>
     ensures page { OnOk result (page.new ≡ page.old ++ flat_map moment_text (run world.old events.now)) }
     ensures world { OnOk result (world.new ≡ last_journal world.old (run world.old events.now)) }
     ensures done { IfOk result (λ done. done ≡ sum_by done_at (run world.old events.now)) }
@@ -128,8 +115,9 @@ fn push_moments(
     for (line, event) in events {
         match push_moment(alloc, page, world, *line, event) {
             Ok(count) => done += count,
-            Err(StepFault::Entries) => return Err(ReplayFault::Entries { line: *line }),
-            Err(StepFault::Memory) => return Err(ReplayFault::Memory),
+            // Each event appends three entries at most, so no schedule of `MAX_FILE` octets passes the
+            // journal's limit: the fault is want of memory.
+            Err(_) => return Err(AllocError),
         }
     }
     Ok(done)
@@ -163,7 +151,7 @@ pub(crate) fn report(
     alloc: Global,
     brokers: &[Text],
     events: &[(u32, Event)],
-) -> Result<Page, ReplayFault>
+) -> Result<Page, AllocError>
     requires { length brokers.now ≤ 64 }
     ensures { IfOk result (λ page. page ≡ report (begin brokers.now) events.now) }
 {
