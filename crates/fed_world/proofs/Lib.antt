@@ -1,2 +1,17 @@
+pub mod Causes
+pub mod Described
+pub mod Held
+pub mod Inversions
+pub mod LastOpened
+pub mod LinkNames
+pub mod Lists
+pub mod Moved
+pub mod Reached
+pub mod RowCaused
 pub mod RowFits
+pub mod RowHas
+pub mod RunKept
 pub mod SoundLemmas
+pub mod Spares
+pub mod Stages
+pub mod Stored

@@ -3,6 +3,7 @@ pub mod Confirm
 pub mod Declare
 pub mod Fits
 pub mod Flush
+pub mod Kept
 pub mod Note
 pub mod Open
 pub mod Publish

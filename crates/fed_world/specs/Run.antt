@@ -1,5 +1,5 @@
 -- A whole run.
-use Rattle.std.specs.Prelude.{ℕ, List, [], ◌∷◌, map, codes}
+use Rattle.std.specs.Prelude.{◌≡◌, ℕ, List, [], ◌∷◌, map, codes}
 use Rattle.fed_journal.specs.declared.entry.Entry.{Entry}
 use Rattle.fed_journal.specs.declared.entry.Entry.TheVariants.{Begun}
 use Rattle.fed_journal.specs.declared.event.Event.{Event}
@@ -28,3 +28,14 @@ moment J line event = record { line = line; event = event; row = next J event; j
 abbrev pub run : List Entry → List (ℕ × Event) → List Moment
 run J [] = []
 run J (e ∷ es) = moment J e.0 e.1 ∷ run (after J (next J e.1)) es
+
+-- the journal after the last moment
+abbrev pub last_journal : List Entry → List Moment → List Entry
+last_journal J [] = J
+last_journal J (m ∷ ms) = last_journal m.journal ms
+
+-- some run of bare brokers leads to this journal
+pub record IsReached (J : List Entry) : Type 0 where
+  pub brokers : List (List ℕ)
+  pub events : List (ℕ × Event)
+  pub leads : J ≡ last_journal (begin brokers) (run (begin brokers) events)

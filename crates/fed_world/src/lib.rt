@@ -1,6 +1,7 @@
 //! The world of a run: one event after another, each as its rule says.
 #![tactic(auto)]
 
+pub mod kept;
 pub mod reason;
 pub mod row;
 pub mod rows;

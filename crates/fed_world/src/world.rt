@@ -5,6 +5,7 @@ ghost use Rattle.fed_world.specs.Step.{next, after, outcome_of, IsOver};
 ghost use Rattle.fed_world.specs.Run.{begin, begun};
 ghost use Rattle.fed_world.specs.Sound.{IsSound};
 ghost use Rattle.fed_world.specs.Fits.{EachFits, RowFits};
+ghost use Rattle.fed_world.specs.Kept.{LeavesStored, RemovesMoved, RemovesHeld};
 
 use crate::reason::{Outcome, StepFault};
 use crate::row::{Row, nothing};
@@ -37,12 +38,13 @@ impl Model for World {
     ghost use Rattle.std.specs.Prelude.{List};
     ghost use Rattle.fed_journal.specs.declared.entry.Entry.{Entry};
     ghost use Rattle.fed_world.specs.Sound.{IsSound};
+    ghost use Rattle.fed_world.specs.Run.{IsReached};
 
     ghost Value = { List Entry };
 
     ghost view = { λ w. w.journal.entries };
 
-    ghost invariant = { λ w. IsSound w.journal.entries };
+    ghost invariant = { λ w. IsSound w.journal.entries × IsReached w.journal.entries };
 }
 
 /// The row of an event: what it appends, or why it doesn't happen now.
@@ -176,6 +178,10 @@ impl World {
 
         ensures full { result ≡ Err StepFault.Entries → IsOver self.old (next self.old event.now) }
         ensures within { OnOk result (IsOver self.old (next self.old event.now) → ⊥) }
+
+        ensures stored { LeavesStored self.old event.now self.new }
+        ensures moved { RemovesMoved self.new }
+        ensures held { RemovesHeld self.new }
     {
         match fitting_row(self.alloc, &self.journal, event) {
             Err(_) => Err(StepFault::Memory),
@@ -192,6 +198,8 @@ impl World {
     pub fn journal(&self) -> &Journal
         ensures entries { result.now.entries ≡ self.now }
         ensures sound { IsSound self.now }
+        ensures moved { RemovesMoved self.now }
+        ensures held { RemovesHeld self.now }
     {
         &self.journal
     }

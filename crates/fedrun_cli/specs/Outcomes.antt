@@ -4,7 +4,7 @@ use Rattle.fed_schedule.specs.declared.script.ScheduleFault.TheVariants as fault
 use Rattle.fed_schedule.specs.Schedule.{Reading, reading}
 use Rattle.fed_outside.specs.Outside.{Rose, grown, GrownByPrefix}
 use Rattle.fed_world.specs.Run.{begin, run}
-use Rattle.run_laws.specs.Kept.{IsKept}
+use Rattle.fed_world.specs.Kept.{IsKept}
 use Rattle.fedrun_cli.specs.declared.ending.Ending.{Ending}
 use Rattle.fedrun_cli.specs.declared.ending.Ending.TheVariants.{Done, Memory, Usage, Line, ReadFault, WriteFault, FileTooLong, Places, Absent}
 use Rattle.fedrun_cli.specs.declared.command.TheConstants.{MAX_FILE, MAX_PLACES}

@@ -11,7 +11,7 @@ use fed_journal::page::Page;
 use fed_outside::{Loaded, Shelf, Sink};
 use fed_schedule::schedule::read;
 use fed_schedule::script::{ScheduleFault, Script};
-use run_laws::kept::kept;
+use fed_world::kept::kept;
 use std::alloc::Global;
 
 /// The most octets of a schedule's file.

@@ -9,15 +9,15 @@ use Rattle.fed_journal.specs.declared.event.Event.{Event}
 use Rattle.fed_journal.specs.declared.entry.Entry.{Entry}
 use Rattle.fed_world.specs.Row.{Row}
 use Rattle.fed_world.specs.Step.{next, after}
-use Rattle.fed_world.specs.Run.{begin, begun, run}
-use Rattle.run_laws.specs.Kept.{IsKept, EachMoment, HoldsTaken, last_journal}
-use Rattle.run_laws.proofs.Causes.{is_begun, EachCaused, caused-append}
-use Rattle.run_laws.proofs.Held.{held-at, holds-at}
-use Rattle.run_laws.proofs.Moved.{moved-at}
-use Rattle.run_laws.proofs.RowCaused.{next-caused}
-use Rattle.run_laws.proofs.RowHas.{RowHas}
-use Rattle.run_laws.proofs.Stages.{follows-stages}
-use Rattle.run_laws.proofs.Stored.{run-keeps_stored}
+use Rattle.fed_world.specs.Run.{begin, begun, run, last_journal}
+use Rattle.fed_world.specs.Kept.{IsKept, EachMoment, HoldsTaken}
+use Rattle.fed_world.proofs.Causes.{is_begun, EachCaused, caused-append}
+use Rattle.fed_world.proofs.Held.{held-at, holds-at}
+use Rattle.fed_world.proofs.Moved.{moved-at}
+use Rattle.fed_world.proofs.RowCaused.{next-caused}
+use Rattle.fed_world.proofs.RowHas.{RowHas}
+use Rattle.fed_world.proofs.Stages.{follows-stages}
+use Rattle.fed_world.proofs.Stored.{run-keeps_stored}
 
 begin-caused : (K : List Entry) (brokers : List (List ℕ)) → list_all is_begun K ≡ true → EachCaused K (begin brokers)
 begin-caused K [] h = tt

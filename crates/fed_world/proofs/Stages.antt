@@ -4,9 +4,9 @@ use Rattle.fed_journal.specs.declared.entry.Publication.{Publication}
 use Rattle.fed_journal.specs.declared.entry.Publisher.TheVariants.{Link}
 use Rattle.fed_journal.specs.declared.entry.Entry.{Entry}
 use Rattle.fed_journal.specs.declared.entry.Entry.TheVariants.{Sent, Published, Confirmed, Noted}
-use Rattle.run_laws.specs.Kept.{StandsAfter, FollowsStages}
-use Rattle.run_laws.proofs.Causes.{Caused, CausedBy, EachCaused, PublishesCopy, caused-at}
-use Rattle.run_laws.proofs.Moved.{confirmed-at}
+use Rattle.fed_world.specs.Kept.{StandsAfter, FollowsStages}
+use Rattle.fed_world.proofs.Causes.{Caused, CausedBy, EachCaused, PublishesCopy, caused-at}
+use Rattle.fed_world.proofs.Moved.{confirmed-at}
 
 sent-by : (K : List Entry) (x : Publication) (l : List ℕ) (s c : ℕ) → CausedBy K x x.by → x.by ≡ Link l s c → (L : List Entry) × StandsAfter L (Sent l s c) K
 sent-by K x l s c cause by =

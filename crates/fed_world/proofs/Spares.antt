@@ -31,8 +31,8 @@ use Rattle.fed_world.specs.Accept.{accept_row, accept_first, accepted}
 use Rattle.fed_world.specs.Confirm.{confirm_row, confirm_first, confirmed}
 use Rattle.fed_world.specs.Note.{note_row}
 use Rattle.fed_world.specs.Step.{next}
-use Rattle.run_laws.specs.Kept.{is_removal}
-use Rattle.run_laws.proofs.RowHas.{RowHas, either-has, at_place-has, with_link-has, while_open-has, one_or_empty-has}
+use Rattle.fed_world.specs.Kept.{is_removal}
+use Rattle.fed_world.proofs.RowHas.{RowHas, either-has, at_place-has, with_link-has, while_open-has, one_or_empty-has}
 
 -- none of the entries removes a copy
 abbrev pub Spares : List Entry → Type 0

@@ -13,9 +13,9 @@ use Rattle.fed_journal.specs.Copies.{enters, releases, flushes, is_released, is_
 use Rattle.fed_world.specs.Row.{Row}
 use Rattle.fed_world.specs.Step.{next, after}
 use Rattle.fed_world.specs.Run.{run, moment}
-use Rattle.run_laws.specs.Kept.{is_alive, EachMoment, KeepsStored}
-use Rattle.run_laws.proofs.RowHas.{RowHas}
-use Rattle.run_laws.proofs.Spares.{Spares, next-spares}
+use Rattle.fed_world.specs.Kept.{is_alive, EachMoment, KeepsStored}
+use Rattle.fed_world.proofs.RowHas.{RowHas}
+use Rattle.fed_world.proofs.Spares.{Spares, next-spares}
 
 position_or_len-append : {X : Type 0} (p : X → Bool) (xs ys : List X) → position_or_len p xs < length xs → position_or_len p (xs ++ ys) ≡ position_or_len p xs
 position_or_len-append p xs ys h =

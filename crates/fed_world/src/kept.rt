@@ -3,7 +3,7 @@
 ghost use Rattle.std.specs.Prelude.{List, ℕ};
 ghost use Rattle.fed_journal.specs.declared.event.Event.{Event};
 ghost use Rattle.fed_world.specs.Run.{begin, run};
-ghost use Rattle.run_laws.specs.Kept.{IsKept, EachMoment, KeepsStored};
+ghost use Rattle.fed_world.specs.Kept.{IsKept, EachMoment, KeepsStored};
 
 /// In every run each event that isn't a removal leaves every copy that is alive and stored so
 /// (RabbitMQ, Queues: durability).

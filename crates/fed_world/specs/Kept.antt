@@ -14,7 +14,7 @@ use Rattle.fed_journal.specs.Copies.{enters, is_gone, is_stored, is_secured, fin
 use Rattle.fed_journal.specs.Holds.{Session, holder}
 use Rattle.fed_journal.specs.Links.{link_of}
 use Rattle.fed_journal.specs.Outgoing.{outgoing}
-use Rattle.fed_world.specs.Run.{Moment}
+use Rattle.fed_world.specs.Run.{Moment, last_journal}
 
 -- the events by which a copy may leave its queue: it is handed to a link, or its acknowledgement removes it (AMQP 0-9-1, basic.deliver, basic.ack)
 abbrev pub is_removal : Event → Bool
@@ -26,19 +26,18 @@ is_removal _ = false
 abbrev pub is_alive : List Entry → ℕ → Bool
 is_alive J c = list_any (enters c) J && not (is_gone J c)
 
--- unless its event is a removal, a moment leaves each copy that is alive and stored so (RabbitMQ, Queues: durability)
+-- unless it is a removal, the event between the journals J and K leaves each copy that is alive and stored so (RabbitMQ, Queues: durability)
+abbrev pub LeavesStored : List Entry → Event → List Entry → Type 0
+LeavesStored J event K = IsFalse (is_removal event) → (c : ℕ) → IsTrue (is_alive J c) → IsTrue (is_stored J c) → IsTrue (is_alive K c) × IsTrue (is_stored K c)
+
+-- so does each moment's event, from the journal before it to the one after it
 abbrev pub KeepsStored : List Entry → Moment → Type 0
-KeepsStored J m = IsFalse (is_removal m.event) → (c : ℕ) → IsTrue (is_alive J c) → IsTrue (is_stored J c) → IsTrue (is_alive m.journal c) × IsTrue (is_stored m.journal c)
+KeepsStored J m = LeavesStored J m.event m.journal
 
 -- P of the journal before each moment and that moment, from the journal J on
 abbrev pub EachMoment : (List Entry → Moment → Type 0) → List Entry → List Moment → Type 0
 EachMoment P J [] = Unit {0}
 EachMoment P J (m ∷ ms) = P J m × EachMoment P m.journal ms
-
--- the journal after the last moment
-abbrev pub last_journal : List Entry → List Moment → List Entry
-last_journal J [] = J
-last_journal J (m ∷ ms) = last_journal m.journal ms
 
 -- the entry stands in the journal J, and K is what stands before it
 abbrev pub StandsAfter : List Entry → Entry → List Entry → Type 0

@@ -35,18 +35,18 @@ use Rattle.fed_world.specs.Confirm.{confirm_row, confirm_first, confirmed}
 use Rattle.fed_world.specs.Note.{note_row}
 use Rattle.fed_world.specs.Settle.{settle_row}
 use Rattle.fed_world.specs.Step.{next}
-use Rattle.run_laws.specs.Kept.{StandsAfter, IsPublishedFor}
-use Rattle.run_laws.proofs.Causes.{EachCaused, WasConfirmed, WasNoted}
-use Rattle.run_laws.proofs.Inversions.{same_text-true, taken_by-is, sent_by-is, noted_by-is, confirmed_copy-is, Confirms, publishes-is, Publishes}
-use Rattle.run_laws.proofs.Lists.{IsIn, Split, first-in, find-in, filter-in, filter_map-in, any-middle}
-use Rattle.run_laws.proofs.Described.{link_of-made}
-use Rattle.run_laws.proofs.LastOpened.{last-opened}
+use Rattle.fed_world.specs.Kept.{StandsAfter, IsPublishedFor}
+use Rattle.fed_world.proofs.Causes.{EachCaused, WasConfirmed, WasNoted}
+use Rattle.fed_world.proofs.Inversions.{same_text-true, taken_by-is, sent_by-is, noted_by-is, confirmed_copy-is, Confirms, publishes-is, Publishes}
+use Rattle.fed_world.proofs.Lists.{IsIn, Split, first-in, find-in, filter-in, filter_map-in, any-middle}
+use Rattle.fed_world.proofs.Described.{link_of-made}
+use Rattle.fed_world.proofs.LastOpened.{last-opened}
 use Rattle.std.proofs.Common.{◌∙◌}
 use Rattle.std.specs.Prelude.{codes}
 use Rattle.std.proofs.lemmas.Bool.{and_parts}
 use Rattle.fed_journal.specs.Configuration.{is_place}
-use Rattle.run_laws.proofs.RowHas.{if_not-has, at_known_place-has, while_known_open-has, RowHas, either-has, at_place-has, with_link-has, while_open-has, one_or_empty-has}
-use Rattle.run_laws.proofs.Stored.{position-within}
+use Rattle.fed_world.proofs.RowHas.{if_not-has, at_known_place-has, while_known_open-has, RowHas, either-has, at_place-has, with_link-has, while_open-has, one_or_empty-has}
+use Rattle.fed_world.proofs.Stored.{position-within}
 
 -- the place of an entry that is known to be another
 stands-as : (J : List Entry) (P : Entry → Type 0) (e : Entry) (s : Split P J) → s.at ≡ e → StandsAfter s.before e J

@@ -10,12 +10,12 @@ use Rattle.fed_journal.specs.declared.entry.Entry.TheVariants.{Took, Sent, Publi
 use Rattle.fed_journal.specs.Copies.{enters, releases, is_gone, is_released}
 use Rattle.fed_journal.specs.Flight.{has, settled_for, is_number}
 use Rattle.fed_journal.specs.Holds.{Holder, Session, hold_step, holder, is_ready}
-use Rattle.run_laws.specs.Kept.{StandsAfter, IsMoved, RemovesHeld, HoldsTaken, is_alive}
-use Rattle.run_laws.proofs.Causes.{Caused, EachCaused, WasNoted, caused-at}
-use Rattle.run_laws.proofs.Inversions.{releases-is, settled_for-same}
-use Rattle.run_laws.proofs.Lists.{IsIn, Split, in-middle, in-longer, in-push_cases, in-split, any-split, any-middle}
-use Rattle.run_laws.proofs.Moved.{moved-at}
-use Rattle.run_laws.proofs.Stored.{list_any-longer}
+use Rattle.fed_world.specs.Kept.{StandsAfter, IsMoved, RemovesHeld, HoldsTaken, is_alive}
+use Rattle.fed_world.proofs.Causes.{Caused, EachCaused, WasNoted, caused-at}
+use Rattle.fed_world.proofs.Inversions.{releases-is, settled_for-same}
+use Rattle.fed_world.proofs.Lists.{IsIn, Split, in-middle, in-longer, in-push_cases, in-split, any-split, any-middle}
+use Rattle.fed_world.proofs.Moved.{moved-at}
+use Rattle.fed_world.proofs.Stored.{list_any-longer}
 
 none-of : (o : Option Holder) → is_some o ≡ false → o ≡ None
 none-of None h = refl

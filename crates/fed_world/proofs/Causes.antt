@@ -14,8 +14,8 @@ use Rattle.fed_journal.specs.Holds.{is_ready}
 use Rattle.fed_journal.specs.Links.{link_of, is_shovel_set}
 use Rattle.fed_journal.specs.Names.{same_text}
 use Rattle.fed_journal.specs.Outgoing.{outgoing}
-use Rattle.run_laws.proofs.LastOpened.{WasOpened}
-use Rattle.run_laws.specs.Kept.{StandsAfter, IsPublishedFor}
+use Rattle.fed_world.proofs.LastOpened.{WasOpened}
+use Rattle.fed_world.specs.Kept.{StandsAfter, IsPublishedFor}
 
 -- the copy was sent on by the session, and the message is what its link publishes for it
 pub record PublishesCopy (K : List Entry) (x : Publication) (l : List ℕ) (s c : ℕ) : Type 0 where

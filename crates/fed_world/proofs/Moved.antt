@@ -11,10 +11,10 @@ use Rattle.fed_journal.specs.Copies.{find_publication, is_secured, is_secured_at
 use Rattle.fed_journal.specs.declared.link.LinkSpec.{LinkSpec}
 use Rattle.fed_journal.specs.declared.entry.Entry.TheVariants.{Opened}
 use Rattle.fed_journal.specs.Links.{link_of}
-use Rattle.run_laws.proofs.Described.{described-later}
-use Rattle.run_laws.proofs.LastOpened.{WasOpened}
-use Rattle.run_laws.specs.Kept.{StandsAfter, IsConfirmedFor, IsMoved}
-use Rattle.run_laws.proofs.Causes.{Caused, CausedBy, EachCaused, PublishesCopy, WasConfirmed, WasNoted, caused-at}
+use Rattle.fed_world.proofs.Described.{described-later}
+use Rattle.fed_world.proofs.LastOpened.{WasOpened}
+use Rattle.fed_world.specs.Kept.{StandsAfter, IsConfirmedFor, IsMoved}
+use Rattle.fed_world.proofs.Causes.{Caused, CausedBy, EachCaused, PublishesCopy, WasConfirmed, WasNoted, caused-at}
 
 -- the publication of the number stands in the journal
 record FoundAt (p : ℕ) (K : List Entry) (x : Publication) : Type 0 where
