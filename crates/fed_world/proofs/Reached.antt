@@ -1,9 +1,8 @@
 -- What a journal keeps that some run leads to.
-use Rattle.std.specs.Prelude.{Ok, Err}
+use Rattle.std.specs.Prelude.{Ok}
 use Rattle.std.proofs.Common.{◌≡◌, ℕ, List, [], ◌∷◌, ◌++◌, refl, sym, ap, ◌∙◌, subst}
 use Rattle.fed_journal.specs.declared.event.Event.{Event}
 use Rattle.fed_journal.specs.declared.entry.Entry.{Entry}
-use Rattle.fed_world.specs.Row.{Row}
 use Rattle.fed_world.specs.Step.{next, after}
 use Rattle.fed_world.specs.Run.{begin, run, last_journal, IsReached}
 use Rattle.fed_world.specs.Kept.{IsKept, LeavesStored, RemovesMoved, RemovesHeld}
@@ -21,10 +20,10 @@ begin-reached brokers = record { brokers = brokers; events = []; leads = refl }
 
 pub after-reached : (J : List Entry) (event : Event) → IsReached J → IsReached (after J (next J event))
 after-reached J event h = record {
-    brokers = h.brokers;
-    events = h.events ++ (0, event) ∷ [];
-    leads = ap (λ K. after K (next K event)) h.leads ∙ sym (last-after (begin h.brokers) h.events (0, event));
-  }
+  brokers = h.brokers;
+  events = h.events ++ (0, event) ∷ [];
+  leads = ap (λ K. after K (next K event)) h.leads ∙ sym (last-after (begin h.brokers) h.events (0, event));
+}
 
 reached-kept : (J : List Entry) (h : IsReached J) → IsKept (begin h.brokers) (run (begin h.brokers) h.events)
 reached-kept J h = run-kept h.brokers h.events

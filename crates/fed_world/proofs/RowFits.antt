@@ -1,6 +1,6 @@
 -- Each row brings entries that fit.
-use Rattle.std.proofs.Common.{◌≡◌, ℕ, ◌+◌, ◌≤◌, ◌<◌, ◌*◌, ◌^◌, List, [], ◌∷◌, ◌++◌, length, Bool, true, false, Option, Some, None, arith, refl, sym, subst, append_assoc, length-append}
-use Rattle.std.specs.Prelude.{Ok, Err, not, ◌&&◌, if◌then◌else◌, find, slice_get}
+use Rattle.std.proofs.Common.{ℕ, ◌+◌, ◌≤◌, ◌<◌, ◌^◌, List, [], ◌∷◌, ◌++◌, length, Bool, true, false, Option, Some, None, arith, sym, subst, append_assoc, length-append}
+use Rattle.std.specs.Prelude.{Ok, Err, not, ◌&&◌, if◌then◌else◌, find}
 use Rattle.fed_journal.specs.declared.place.Place.{Place}
 use Rattle.fed_journal.specs.declared.message.Message.{Message}
 use Rattle.fed_journal.specs.declared.event.Event.{Event}
@@ -13,7 +13,7 @@ use Rattle.fed_journal.specs.declared.entry.Publisher.{Publisher}
 use Rattle.fed_journal.specs.declared.entry.Publisher.TheVariants.{Client, Link}
 use Rattle.fed_journal.specs.declared.entry.Publication.{Publication}
 use Rattle.fed_journal.specs.declared.entry.Entry.{Entry}
-use Rattle.fed_journal.specs.declared.entry.Entry.TheVariants.{MadeQueue, Flushed, ShovelSet, Took, Sent, Confirmed, Noted, Settled, Opened}
+use Rattle.fed_journal.specs.declared.entry.Entry.TheVariants.{MadeQueue, Flushed, ShovelSet, Opened}
 use Rattle.fed_journal.specs.Configuration.{is_place, is_broker}
 use Rattle.fed_journal.specs.Names.{is_reserved}
 use Rattle.fed_journal.specs.Copies.{copy_count, publication_of, is_secured}

@@ -1,6 +1,5 @@
 -- What an event appends to the journal, or why it doesn't happen now.
-use Rattle.std.specs.Prelude.{ℕ, List, [], ◌∷◌, Bool, if◌then◌else◌, Option, Some, None, Result, Ok, Err, slice_get}
-use Rattle.std.specs.declared.vec.Vec.{Vec}
+use Rattle.std.specs.Prelude.{ℕ, List, [], ◌∷◌, if◌then◌else◌, Option, Some, None, Result, Ok, Err, slice_get}
 use Rattle.fed_journal.specs.declared.place.Place.{Place}
 use Rattle.fed_journal.specs.declared.link.LinkSpec.{LinkSpec}
 use Rattle.fed_journal.specs.declared.entry.Entry.{Entry}

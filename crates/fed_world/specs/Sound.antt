@@ -1,5 +1,5 @@
 -- What every journal of a run keeps, so that its numbers fit their types.
-use Rattle.std.specs.Prelude.{ℕ, ◌≤◌, ◌*◌, ◌^◌, List, length, All}
+use Rattle.std.specs.Prelude.{ℕ, ◌≤◌, List, length, All}
 use Rattle.fed_journal.specs.declared.entry.Entry.{Entry}
 use Rattle.fed_journal.specs.declared.journal.TheConstants.{MAX_ENTRIES}
 use Rattle.fed_journal.specs.Copies.{IsNumbered}

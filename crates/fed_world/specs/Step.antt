@@ -1,5 +1,5 @@
 -- One event, and what becomes of it.
-use Rattle.std.specs.Prelude.{◌≡◌, ℕ, ◌+◌, ◌<◌, List, [], ◌++◌, length, Ok, Err}
+use Rattle.std.specs.Prelude.{◌+◌, ◌<◌, List, [], ◌++◌, length, Ok, Err}
 use Rattle.fed_journal.specs.declared.entry.Entry.{Entry}
 use Rattle.fed_journal.specs.declared.event.Event.{Event}
 use Rattle.fed_journal.specs.declared.event.Event.TheVariants.{DeclareQueue, Publish, Flush, SetShovel, Open, Take, Send, Accept, Confirm, Note, Settle, Show}
