@@ -1,13 +1,14 @@
 -- Publications, their copies, and what becomes of a copy.
-use Rattle.std.specs.Prelude.{ℕ, ◌+◌, ◌-◌, ◌<◌, ◌^◌, List, [], ◌∷◌, Bool, false, true, ◌&&◌, ◌||◌, not, length, count_by, sum_by, filter_map, take, drop, Option, Some, None, option_map, if◌then◌else◌, ◌==◌, nat_le, nat_lt, position}
+use Rattle.std.specs.Prelude.{ℕ, ◌+◌, ◌-◌, ◌<◌, ◌^◌, List, [], ◌∷◌, Bool, false, true, ◌&&◌, ◌||◌, not, length, count_by, sum_by, filter_map, fold, take, drop, Option, Some, None, option_map, if◌then◌else◌, ◌==◌, nat_le, nat_lt, position}
 use Rattle.std.specs.List.{list_any, list_all, slice_get}
 use Rattle.fed_journal.specs.declared.place.Place.{Place}
 use Rattle.fed_journal.specs.declared.place.QueueOptions.{QueueOptions}
 use Rattle.fed_journal.specs.declared.entry.Publication.{Publication}
 use Rattle.fed_journal.specs.declared.entry.Entry.{Entry}
-use Rattle.fed_journal.specs.declared.entry.Entry.TheVariants.{Published, Flushed, Settled}
+use Rattle.fed_journal.specs.declared.entry.Entry.TheVariants.{Published, Flushed, Took, Delivered, Acked, Rejected, Requeued, Purged, Closed, Settled}
 use Rattle.fed_journal.specs.Configuration.{queue_options}
 use Rattle.fed_journal.specs.Names.{same_text, same_place}
+use Rattle.fed_journal.specs.Holders.{Holder, Session, Channel, is_connection}
 
 abbrev pub is_publication : Entry → Bool
 is_publication (Published x) = true
@@ -94,13 +95,63 @@ must_be_stored J c = must_be_stored_from J c (position (enters c) J)
 unfoldable pub is_stored : List Entry → ℕ → Bool
 is_stored J c = must_be_stored J c && is_flushed_from J (position (enters c) J)
 
--- the copy leaves its queue otherwise than by loss: a link's acknowledgement removes it (AMQP 0-9-1, basic.ack)
-abbrev pub releases : ℕ → Entry → Bool
-releases c (Settled l s copy) = copy == c
-releases c _ = false
+-- what has become of a copy: no publication has it, it waits in its queue, it is handed out and unacknowledged, it has left its queue
+pub data Standing : Type 0 where
+  Unknown : Standing
+  Ready : Standing
+  Held : (holder : Holder) → Standing
+  Left : Standing
 
-unfoldable pub is_released : List Entry → ℕ → Bool
-is_released J c = list_any (releases c) J
+abbrev pub is_left : Standing → Bool
+is_left Left = true
+is_left _ = false
+
+abbrev pub is_waiting : Standing → Bool
+is_waiting Ready = true
+is_waiting _ = false
+
+abbrev pub is_name_of : List ℕ → Option (List ℕ) → Bool
+is_name_of q None = false
+is_name_of q (Some name) = same_text name q
+
+-- the publication brought the copy into this queue
+abbrev pub is_home : Publication → ℕ → Place → List ℕ → Bool
+is_home x c p q = same_place x.place p && is_name_of q (slice_get x.queues (c - x.first))
+
+-- handed out to be acknowledged, or for good (AMQP 0-9-1, basic.consume: no-ack)
+abbrev pub handed : Bool → Holder → Standing
+handed no_ack holder = if no_ack then Left else Held holder
+
+-- a connection that ends gives back what its channels held (RabbitMQ, Consumer Acknowledgements: automatic requeueing)
+abbrev pub closed : Place → ℕ → Standing → Standing
+closed p n (Held holder) = if is_connection p n holder then Ready else Held holder
+closed p n t = t
+
+-- what an entry does with a copy of the publication that hasn't left its queue (AMQP 0-9-1, basic.deliver, basic.ack, basic.reject, queue.purge)
+abbrev pub moved : ℕ → Publication → Standing → Entry → Standing
+moved c x t (Took link session copy) = if copy == c then Held (Session link session) else t
+moved c x t (Delivered place client tag queue copy no_ack) = if copy == c then handed no_ack (Channel place client tag) else t
+moved c x t (Acked place client copy) = if copy == c then Left else t
+moved c x t (Rejected place client copy) = if copy == c then Left else t
+moved c x t (Requeued place client copy) = if copy == c then Ready else t
+moved c x t (Settled link session copy) = if copy == c then Left else t
+moved c x t (Purged place queue) = if is_waiting t && is_home x c place queue then Left else t
+moved c x t (Closed place connection) = closed place connection t
+moved c x t _ = t
+
+-- what has left stays away
+abbrev pub standing_step : ℕ → Publication → Standing → Entry → Standing
+standing_step c x t e = if is_left t then Left else moved c x t e
+
+-- a copy is ready in its queue once it is published (AMQP 0-9-1, 3.1.3), and then every entry does with it as above
+unfoldable pub standing : ℕ → List Entry → Standing
+standing c [] = Unknown
+standing c (Published x ∷ J) = if is_copy_of x c then fold (standing_step c x) Ready J else standing c J
+standing c (_ ∷ J) = standing c J
+
+-- the copy has left its queue otherwise than by loss
+abbrev pub is_released : List Entry → ℕ → Bool
+is_released J c = is_left (standing c J)
 
 -- the copy has left its queue
 abbrev pub is_gone : List Entry → ℕ → Bool

@@ -33,7 +33,7 @@ sent_by l s (Sent link session c) = of_session l s link session c
 sent_by l s _ = None
 
 abbrev pub copy_published_by : List ℕ → ℕ → Publisher → Option ℕ
-copy_published_by l s (Client connection channel) = None
+copy_published_by l s (Client client) = None
 copy_published_by l s (Link link session c) = of_session l s link session c
 
 -- the copy from which the target published for it

@@ -1,28 +1,33 @@
 -- Which copies are handed out, and to whom.
-use Rattle.std.specs.Prelude.{ℕ, List, fold, if◌then◌else◌, Bool, ◌&&◌, not, ◌==◌, Option, Some, None, is_some, is_none, filter, count_by, find}
+use Rattle.std.specs.Prelude.{ℕ, List, Bool, true, false, Option, Some, None, is_some, count_by, find}
 use Rattle.fed_journal.specs.declared.place.Place.{Place}
+use Rattle.fed_journal.specs.declared.place.Client.{Client}
 use Rattle.fed_journal.specs.declared.entry.Entry.{Entry}
-use Rattle.fed_journal.specs.declared.entry.Entry.TheVariants.{Took}
-use Rattle.fed_journal.specs.Copies.{is_gone, entered}
+use Rattle.fed_journal.specs.Holders.{Holder, is_client}
+use Rattle.fed_journal.specs.Copies.{Standing, Unknown, Ready, Held, Left, standing, is_waiting, entered}
 
--- a session of a link that a copy was handed to
-pub data Holder : Type 0 where
-  Session : (link : List ℕ) (session : ℕ) → Holder
-
-abbrev pub hold_step : ℕ → Option Holder → Entry → Option Holder
-hold_step c was (Took link session copy) = if copy == c then Some (Session link session) else was
-hold_step c was _ = was
+abbrev pub holder_in : Standing → Option Holder
+holder_in (Held holder) = Some holder
+holder_in _ = None
 
 -- a copy is held, unacknowledged, by whom it was last handed to, while it is in its queue (RabbitMQ, Consumer Acknowledgements)
-unfoldable pub holder : List Entry → ℕ → Option Holder
-holder J c = if is_gone J c then None else fold (hold_step c) None J
+abbrev pub holder : List Entry → ℕ → Option Holder
+holder J c = holder_in (standing c J)
 
 abbrev pub is_held : List Entry → ℕ → Bool
 is_held J c = is_some (holder J c)
 
+abbrev pub is_client_of : Place → Client → Option Holder → Bool
+is_client_of p k None = false
+is_client_of p k (Some holder) = is_client p k holder
+
+-- the client holds the copy
+abbrev pub is_held_by : List Entry → Place → Client → ℕ → Bool
+is_held_by J p k c = is_client_of p k (holder J c)
+
 -- a copy that is in its queue and not held
 abbrev pub is_ready : List Entry → ℕ → Bool
-is_ready J c = not (is_gone J c) && not (is_held J c)
+is_ready J c = is_waiting (standing c J)
 
 -- what the queue would hand out now: its ready copy of the least number
 unfoldable pub first_ready : List Entry → Place → List ℕ → Option ℕ

@@ -1,7 +1,9 @@
 pub mod Configuration
+pub mod Consumers
 pub mod Copies
 pub mod Counted
 pub mod Flight
+pub mod Holders
 pub mod Holds
 pub mod Links
 pub mod Names

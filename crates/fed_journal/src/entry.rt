@@ -1,13 +1,13 @@
 //! What the journal records.
 use crate::event::Shovel;
 use crate::message::Message;
-use crate::place::{Place, QueueOptions};
+use crate::place::{Client, Place, QueueOptions};
 use crate::text::{Names, Text};
 
 /// Who published a message.
 #[derive(Drop)]
 pub enum Publisher {
-    Client { connection: u16, channel: u16 },
+    Client(Client),
     /// A session of a link, from a copy that it took.
     Link { link: Text, session: u32, copy: u64 },
 }
@@ -80,6 +80,60 @@ pub enum Entry {
         link: Text,
         session: u32,
         ready: u64,
+    },
+    /// A client consumes from the queue, under a tag of its own. It may hold `prefetch` unacknowledged
+    /// copies of it, and any number where that is 0.
+    Consumed {
+        place: Place,
+        client: Client,
+        queue: Text,
+        tag: Text,
+        no_ack: bool,
+        prefetch: u16,
+    },
+    /// The client's consumer of that tag ended.
+    Cancelled {
+        place: Place,
+        client: Client,
+        tag: Text,
+    },
+    /// A copy was handed to a client: to its consumer of that tag, or, where the tag is empty, as it
+    /// asked for one.
+    Delivered {
+        place: Place,
+        client: Client,
+        tag: Text,
+        queue: Text,
+        copy: u64,
+        no_ack: bool,
+    },
+    /// The client acknowledged the copy, which is gone.
+    Acked {
+        place: Place,
+        client: Client,
+        copy: u64,
+    },
+    /// The client rejected the copy, which is gone.
+    Rejected {
+        place: Place,
+        client: Client,
+        copy: u64,
+    },
+    /// The client gave the copy back to its queue.
+    Requeued {
+        place: Place,
+        client: Client,
+        copy: u64,
+    },
+    /// The ready copies of the queue are gone.
+    Purged {
+        place: Place,
+        queue: Text,
+    },
+    /// The connection ended, with its consumers; what it held is ready again.
+    Closed {
+        place: Place,
+        connection: u32,
     },
     /// A shovel's parameter was set.
     ShovelSet {

@@ -31,6 +31,63 @@ pub enum Event {
         body: Octets,
         persistent: bool,
     },
+    /// basic.consume by a client. It may hold `prefetch` unacknowledged copies, any number where that is 0.
+    Consume {
+        place: Place,
+        client: u16,
+        queue: Text,
+        tag: Text,
+        no_ack: bool,
+        prefetch: u16,
+    },
+    /// basic.cancel by a client.
+    Cancel {
+        place: Place,
+        client: u16,
+        tag: Text,
+    },
+    /// The broker sends basic.deliver to a client's consumer.
+    Deliver {
+        place: Place,
+        client: u16,
+        tag: Text,
+    },
+    /// basic.get by a client.
+    Get {
+        place: Place,
+        client: u16,
+        queue: Text,
+        no_ack: bool,
+    },
+    /// basic.ack by a client.
+    Ack {
+        place: Place,
+        client: u16,
+        copy: u64,
+    },
+    /// basic.reject without requeue by a client.
+    Reject {
+        place: Place,
+        client: u16,
+        copy: u64,
+    },
+    /// basic.reject with requeue by a client.
+    Requeue {
+        place: Place,
+        client: u16,
+        copy: u64,
+    },
+    /// queue.purge by a client.
+    Purge {
+        place: Place,
+        client: u16,
+        queue: Text,
+    },
+    /// A client's connection ends.
+    Close {
+        place: Place,
+        client: u16,
+    },
     /// The broker stores what it holds.
     Flush {
         broker: Text,

@@ -1,4 +1,4 @@
-//! Where queues stand.
+//! Where queues stand, and who is connected there.
 use crate::text::Text;
 
 /// A broker, by its run name, and a virtual host of it.
@@ -14,4 +14,11 @@ pub struct QueueOptions {
     pub durable: bool,
     pub exclusive: bool,
     pub auto_delete: bool,
+}
+
+/// A client of a place: a connection to it, and a channel of that connection (AMQP 0-9-1, 2.1.1).
+#[derive(Clone, Copy, PartialEq, Eq)]
+pub struct Client {
+    pub connection: u32,
+    pub channel: u16,
 }
