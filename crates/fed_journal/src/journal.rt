@@ -109,8 +109,9 @@ impl Journal {
             self.publications += 1;
             self.copies += publication.queues.count();
         }
-        if self.items.push(entry).is_err() {
-            unreachable!()
+        match self.items.push(entry) {
+            Ok(()) => {}
+            Err(_) => unreachable!(),
         }
     }
 }
