@@ -7,10 +7,10 @@ use Rattle.fed_journal.specs.declared.entry.Publisher.{Publisher}
 use Rattle.fed_journal.specs.declared.entry.Publisher.TheVariants.{Client, Link}
 use Rattle.fed_journal.specs.declared.entry.Publication.{Publication}
 use Rattle.fed_journal.specs.declared.entry.Entry.{Entry}
-use Rattle.fed_journal.specs.declared.entry.Entry.TheVariants.{Begun, Opened, ShovelSet, Took, Sent, Published, Confirmed, Noted, Settled}
+use Rattle.fed_journal.specs.declared.entry.Entry.TheVariants.{Begun, Opened, ShovelSet, Delivered, Acked, Rejected, Requeued, Took, Sent, Published, Confirmed, Noted, Settled}
 use Rattle.fed_journal.specs.Copies.{enters, is_secured, find_publication, publication_of}
 use Rattle.fed_journal.specs.Flight.{has, settled_for}
-use Rattle.fed_journal.specs.Holds.{is_ready}
+use Rattle.fed_journal.specs.Holds.{is_ready, is_held_by}
 use Rattle.fed_journal.specs.Links.{link_of, is_shovel_set}
 use Rattle.fed_journal.specs.Names.{same_text}
 use Rattle.fed_journal.specs.Outgoing.{outgoing}
@@ -45,7 +45,7 @@ pub record WasNoted (K : List Entry) (l : List ℕ) (s c : ℕ) : Type 0 where
   pub still : has (settled_for l s) c K ≡ false
 
 abbrev pub CausedBy : List Entry → Publication → Publisher → Type 0
-CausedBy K x (Client connection channel) = Unit {0}
+CausedBy K x (Client client) = Unit {0}
 CausedBy K x (Link l s c) = PublishesCopy K x l s c
 
 -- a broker's beginning
@@ -58,6 +58,10 @@ Caused K (Begun broker cluster kept) = list_all is_begun K ≡ true
 Caused K (ShovelSet place name shovel) = (same_text place.vhost (codes "/") ≡ true) × (is_shovel_set K place name ≡ false)
 Caused K (Opened l s ready) = (spec : LinkSpec) × (link_of K l ≡ Some spec)
 Caused K (Took l s c) = (list_any (enters c) K ≡ true) × (is_ready K c ≡ true) × WasOpened K l s
+Caused K (Delivered p k tag q c no_ack) = is_ready K c ≡ true
+Caused K (Acked p k c) = is_held_by K p k c ≡ true
+Caused K (Rejected p k c) = is_held_by K p k c ≡ true
+Caused K (Requeued p k c) = is_held_by K p k c ≡ true
 Caused K (Sent l s c) = (before : List Entry) × StandsAfter before (Took l s c) K
 Caused K (Published x) = CausedBy K x x.by
 Caused K (Confirmed l s p) = (is_secured K p ≡ true) × IsPublishedFor K l s p

@@ -1,77 +1,62 @@
 -- A copy that a session took is held by it until it is removed.
-use Rattle.std.proofs.Common.{◌≡◌, ℕ, List, [], ◌∷◌, ◌++◌, Bool, true, false, Option, Some, None, refl, sym, ap, subst, ◌∙◌, ◌⊎◌, inl, inr, append_assoc, append-nil}
-use Rattle.std.specs.Prelude.{cond, ◌==◌, not, is_some, fold}
+use Rattle.std.proofs.Common.{◌≡◌, ℕ, List, [], ◌∷◌, ◌++◌, Bool, true, false, Some, refl, sym, ap, subst, ◌∙◌, ◌⊎◌, inl, inr, append_assoc, append-nil}
+use Rattle.std.specs.Prelude.{cond, ◌==◌, not, is_some}
 use Rattle.std.specs.List.{list_any}
-use Rattle.std.proofs.lemmas.Bool.{true≢false, eqb-true, eq-eqb, and_parts, and_from, cond-false, not-true, not_from_false}
-use Rattle.std.proofs.lemmas.Option.{none-some, same_Some}
-use Rattle.std.proofs.lemmas.List.Sums.{fold-append}
+use Rattle.std.proofs.lemmas.Bool.{true≢false, eqb-true, eq-eqb, and_from, not_from_false}
+use Rattle.fed_journal.specs.declared.place.Place.{Place}
+use Rattle.fed_journal.specs.declared.place.Client.{Client}
+use Rattle.fed_journal.specs.declared.entry.Publication.{Publication}
 use Rattle.fed_journal.specs.declared.entry.Entry.{Entry}
-use Rattle.fed_journal.specs.declared.entry.Entry.TheVariants.{Took, Sent, Published, Confirmed, Noted, Settled}
-use Rattle.fed_journal.specs.Copies.{enters, releases, is_gone, is_released}
+use Rattle.fed_journal.specs.declared.entry.Entry.TheVariants.{Delivered, Acked, Rejected, Requeued, Took, Sent, Published, Confirmed, Noted, Settled}
+use Rattle.fed_journal.specs.Holders.{Holder, Session, Channel}
+use Rattle.fed_journal.specs.Copies.{Standing, Unknown, Ready, Held, Left, enters, is_gone, is_left, publication_of, standing, standing_step, handed}
 use Rattle.fed_journal.specs.Flight.{has, settled_for, is_number}
-use Rattle.fed_journal.specs.Holds.{Holder, Session, hold_step, holder, is_ready}
+use Rattle.fed_journal.specs.Holds.{holder, holder_in, is_ready, is_held_by}
 use Rattle.fed_world.specs.Kept.{StandsAfter, IsMoved, RemovesHeld, HoldsTaken, is_alive}
-use Rattle.fed_world.proofs.Causes.{Caused, EachCaused, WasNoted, caused-at}
-use Rattle.fed_world.proofs.Inversions.{releases-is, settled_for-same}
-use Rattle.fed_world.proofs.Lists.{IsIn, Split, in-middle, in-longer, in-push_cases, in-split, any-split, any-middle}
+use Rattle.fed_world.proofs.Causes.{Caused, EachCaused, WasNoted, caused-append, caused-at}
+use Rattle.fed_world.proofs.Inversions.{settled_for-same}
+use Rattle.fed_world.proofs.Lists.{IsIn, in-middle, in-longer, in-push_cases, in-split, any-middle}
 use Rattle.fed_world.proofs.Moved.{moved-at}
+use Rattle.fed_world.proofs.Standings.{published-of, standing-push, waiting-is, is_with_session, client-has_it}
 use Rattle.fed_world.proofs.Stored.{list_any-longer}
 
-none-of : (o : Option Holder) → is_some o ≡ false → o ≡ None
-none-of None h = refl
-none-of (Some x) h = absurd (true≢false h)
+-- whether nobody has it
+is_free : Standing → Bool
+is_free Ready = true
+is_free _ = false
 
--- a ready copy was handed to nobody
-ready-free : (K : List Entry) (c : ℕ) → is_ready K c ≡ true → fold (hold_step c) None K ≡ None
-unfolding holder
-ready-free K c h =
-    let parts : (not (is_gone K c) ≡ true) × (not (is_some (holder K c)) ≡ true) = and_parts (not (is_gone K c)) (not (is_some (holder K c))) h in
-    let there : cond (is_gone K c) None (fold (hold_step c) None K) ≡ fold (hold_step c) None K = cond-false (is_gone K c) None (fold (hold_step c) None K) (not-true (is_gone K c) parts.0) in
-    sym there ∙ none-of (holder K c) (not-true (is_some (holder K c)) parts.1)
+link_of_standing : Standing → List ℕ
+link_of_standing (Held (Session l s)) = l
+link_of_standing _ = []
 
--- each copy that was taken is held by who took it, as long as it is there
+session_of_standing : Standing → ℕ
+session_of_standing (Held (Session l s)) = s
+session_of_standing _ = 0
+
+-- who holds a copy is one session of one link
+holder-parts : (k : List ℕ) (t : ℕ) (l : List ℕ) (s : ℕ) → ◌≡◌ {A = Standing} (Held (Session k t)) (Held (Session l s)) → (k ≡ l) × (t ≡ s)
+unfolding link_of_standing session_of_standing
+holder-parts k t l s h = (ap link_of_standing h, ap session_of_standing h)
+
+left-other : (l : List ℕ) (s : ℕ) → ◌≡◌ {A = Standing} Left (Held (Session l s)) → ⊥
+left-other l s h = true≢false (ap is_left h)
+
+-- a copy that was taken is held by who took it, or was removed for it
+IsTakenBy : List Entry → List ℕ → ℕ → ℕ → Type 0
+IsTakenBy K l s c = (standing c K ≡ Held (Session l s)) ⊎ ((standing c K ≡ Left) × IsIn (Settled l s c) K)
+
 Taken : List Entry → Type 0
-Taken K = (l : List ℕ) (s c : ℕ) → IsIn (Took l s c) K → fold (hold_step c) None K ≡ Some (Session l s)
+Taken K = (l : List ℕ) (s c : ℕ) → IsIn (Took l s c) K → IsTakenBy K l s c
 
-took-stays : (K : List Entry) (c d : ℕ) (taker was : Holder) (b : Bool) → (d == c) ≡ b → fold (hold_step c) None K ≡ Some was → is_ready K d ≡ true → cond b (Some taker) (Some was) ≡ Some was
-took-stays K c d taker was true e held ready =
-    let free : fold (hold_step c) None K ≡ None = subst (λ n. fold (hold_step n) None K ≡ None) (eqb-true d c e) (ready-free K d ready) in
-    absurd (none-some was (sym free ∙ held))
-took-stays K c d taker was false e held ready = refl
+-- a held copy isn't ready, and what a session holds no client holds
+held-not_ready : (K : List Entry) (l : List ℕ) (s c d : ℕ) → standing c K ≡ Held (Session l s) → d ≡ c → is_ready K d ≡ true → ⊥
+unfolding is_free
+held-not_ready K l s c d held same ready =
+    true≢false (ap is_free (sym (waiting-is (standing d K) ready) ∙ ap (λ n. standing n K) same ∙ held))
 
-hold-stays : (K : List Entry) (c : ℕ) (e : Entry) (was : Holder) → fold (hold_step c) None K ≡ Some was → Caused K e → hold_step c (Some was) e ≡ Some was
-hold-stays K c (Took k t d) was held cause = took-stays K c d (Session k t) was (d == c) refl held cause.1
-hold-stays K c _ was held cause = refl
-
-fold-push : (K : List Entry) (c : ℕ) (e : Entry) → fold (hold_step c) None (K ++ e ∷ []) ≡ hold_step c (fold (hold_step c) None K) e
-fold-push K c e = fold-append (hold_step c) None K (e ∷ [])
-
-taken-old : (K : List Entry) (e : Entry) → Taken K → Caused K e → (l : List ℕ) (s c : ℕ) → IsIn (Took l s c) K → fold (hold_step c) None (K ++ e ∷ []) ≡ Some (Session l s)
-unfolding Taken
-taken-old K e taken cause l s c h =
-    let held : fold (hold_step c) None K ≡ Some (Session l s) = taken l s c h in
-    fold-push K c e ∙ ap (λ o. hold_step c o e) held ∙ hold-stays K c e (Session l s) held cause
-
-taken-new : (K : List Entry) (e : Entry) (l : List ℕ) (s c : ℕ) → e ≡ Took l s c → fold (hold_step c) None (K ++ e ∷ []) ≡ Some (Session l s)
-taken-new K e l s c same =
-    fold-push K c e ∙ ap (λ d. hold_step c (fold (hold_step c) None K) d) same
-    ∙ ap (λ b. cond b (Some (Session l s)) (fold (hold_step c) None K)) (eq-eqb c c refl)
-
-taken-by : (K : List Entry) (e : Entry) → Taken K → Caused K e → (l : List ℕ) (s c : ℕ) → IsIn (Took l s c) K ⊎ (e ≡ Took l s c) → fold (hold_step c) None (K ++ e ∷ []) ≡ Some (Session l s)
-taken-by K e taken cause l s c (inl h) = taken-old K e taken cause l s c h
-taken-by K e taken cause l s c (inr same) = taken-new K e l s c same
-
-taken-push : (K : List Entry) (e : Entry) → Taken K → Caused K e → Taken (K ++ e ∷ [])
-unfolding Taken
-taken-push K e taken cause l s c h = taken-by K e taken cause l s c (in-push_cases (Took l s c) e K h)
-
-taken-each : (K es : List Entry) → Taken K → EachCaused K es → Taken (K ++ es)
-taken-each K [] taken h = subst Taken (sym (append-nil K)) taken
-taken-each K (e ∷ es) taken h = subst Taken (append_assoc K (e ∷ []) es) (taken-each (K ++ e ∷ []) es (taken-push K e taken h.0) h.1)
-
-taken-all : (J : List Entry) → EachCaused [] J → (l : List ℕ) (s c : ℕ) → IsIn (Took l s c) J → fold (hold_step c) None J ≡ Some (Session l s)
-unfolding Taken
-taken-all J h = taken-each [] J (λ l s c k. absurd k) h
+held-not_client's : (K : List Entry) (l : List ℕ) (s c d : ℕ) (p : Place) (k : Client) → standing c K ≡ Held (Session l s) → d ≡ c → is_held_by K p k d ≡ true → ⊥
+held-not_client's K l s c d p k held same client =
+    true≢false (ap is_with_session (sym held ∙ ap (λ n. standing n K) (sym same)) ∙ client-has_it p k (standing d K) client)
 
 stands-longer : (K : List Entry) (e d : Entry) (J : List Entry) → StandsAfter K e J → IsIn d K → IsIn d J
 stands-longer K e d J stands h = subst (IsIn d) (sym stands.1) (in-longer d K (e ∷ stands.0) h)
@@ -87,39 +72,47 @@ moved-took K l s c m =
     (stands-longer m.at_sent (Sent l s c) (Took l s c) m.at_published m.sent
     (stands-in m.at_took (Took l s c) m.at_sent m.took))))
 
-link_of_holder : Holder → List ℕ
-link_of_holder (Session l s) = l
+-- a session that removes a copy took it
+settled-took : (K : List Entry) (l : List ℕ) (s c : ℕ) → EachCaused [] K → Caused K (Settled l s c) → IsIn (Took l s c) K
+settled-took K l s c caused cause =
+    moved-took K l s c (moved-at (K ++ Settled l s c ∷ []) (caused-append [] K (Settled l s c ∷ []) caused (cause, tt)) K l s c ([], refl))
 
-session_of_holder : Holder → ℕ
-session_of_holder (Session l s) = s
+-- the copy is removed for the session that holds it
+settled-by : (K : List Entry) (k : List ℕ) (t d : ℕ) (l : List ℕ) (s c : ℕ) → Taken K → EachCaused [] K → Caused K (Settled k t d) → standing c K ≡ Held (Session l s) → d ≡ c → Settled k t d ≡ Settled l s c
+unfolding Taken IsTakenBy
+settled-by K k t d l s c taken caused cause held same =
+    elim (taken k t d (settled-took K k t d caused cause)) [
+      | inl mine ↦ let parts : (k ≡ l) × (t ≡ s) = holder-parts k t l s (sym mine ∙ ap (λ n. standing n K) same ∙ held) in cc (parts.0, parts.1, same)
+      | inr gone ↦ absurd (left-other l s (sym gone.0 ∙ ap (λ n. standing n K) same ∙ held))
+    ]
 
--- who holds a copy is one session of one link
-holder-parts : (k : List ℕ) (t : ℕ) (l : List ℕ) (s : ℕ) → ◌≡◌ {A = Holder} (Session k t) (Session l s) → (k ≡ l) × (t ≡ s)
-unfolding link_of_holder session_of_holder
-holder-parts k t l s h = (ap link_of_holder h, ap session_of_holder h)
+-- what the entry does with a copy that the session holds
+Stays : Publication → ℕ → List ℕ → ℕ → Entry → Type 0
+Stays x c l s e = (standing_step c x (Held (Session l s)) e ≡ Held (Session l s)) ⊎ ((standing_step c x (Held (Session l s)) e ≡ Left) × (e ≡ Settled l s c))
 
--- a copy that was removed was removed for the session that took it
-removed-for : (K : List Entry) → EachCaused [] K → (l : List ℕ) (s c : ℕ) → IsIn (Took l s c) K → list_any (releases c) K ≡ true → (before : List Entry) × StandsAfter before (Settled l s c) K
-removed-for K caused l s c taken gone =
-    let at : Split (λ e. releases c e ≡ true) K = any-split (releases c) K gone in
-    let settled : (k : List ℕ) × (t : ℕ) × (at.at ≡ Settled k t c) = releases-is c at.at at.holds in
-    let whole : K ≡ at.before ++ Settled settled.0 settled.1 c ∷ at.rest = subst (λ e. K ≡ at.before ++ e ∷ at.rest) settled.2 at.whole in
-    let moved : IsMoved at.before settled.0 settled.1 c = moved-at K caused at.before settled.0 settled.1 c (at.rest, whole) in
-    let there : IsIn (Took settled.0 settled.1 c) K = subst (IsIn (Took settled.0 settled.1 c)) (sym whole) (in-longer (Took settled.0 settled.1 c) at.before (Settled settled.0 settled.1 c ∷ at.rest) (moved-took at.before settled.0 settled.1 c moved)) in
-    let one : fold (hold_step c) None K ≡ Some (Session settled.0 settled.1) = taken-all K caused settled.0 settled.1 c there in
-    let two : fold (hold_step c) None K ≡ Some (Session l s) = taken-all K caused l s c taken in
-    let same : (settled.0 ≡ l) × (settled.1 ≡ s) = holder-parts settled.0 settled.1 l s (same_Some (Session settled.0 settled.1) (Session l s) (sym one ∙ two)) in
-    let mine : K ≡ at.before ++ Settled l s c ∷ at.rest = subst (λ t. K ≡ at.before ++ Settled l t c ∷ at.rest) same.1 (subst (λ k. K ≡ at.before ++ Settled k settled.1 c ∷ at.rest) same.0 whole) in
-    (at.before, (at.rest, mine))
+other-stays : (b : Bool) (t was : Standing) → (b ≡ true → ⊥) → cond b t was ≡ was
+other-stays true t was h = absurd (h refl)
+other-stays false t was h = refl
 
--- where its session's removal doesn't stand, none does
-not_gone-by : (b : Bool) → (b ≡ true → ⊥) → b ≡ false
-not_gone-by true h = absurd (h refl)
-not_gone-by false h = refl
+settled-stays : (b : Bool) (l : List ℕ) (s c : ℕ) (e : Entry) → (b ≡ true → e ≡ Settled l s c) → (cond b Left (Held (Session l s)) ≡ Held (Session l s)) ⊎ ((cond b Left (Held (Session l s)) ≡ Left) × (e ≡ Settled l s c))
+settled-stays true l s c e h = inr (refl, h refl)
+settled-stays false l s c e h = inl refl
 
-settled-seen : (K L : List Entry) (l : List ℕ) (s c : ℕ) → StandsAfter L (Settled l s c) K → has (settled_for l s) c K ≡ true
-settled-seen K L l s c stands =
-    subst (λ J. has (settled_for l s) c J ≡ true) (sym stands.1) (any-middle (λ e. is_number c (settled_for l s e)) (Settled l s c) L stands.0 (settled_for-same l s c))
+held-stays : (K : List Entry) (x : Publication) (c : ℕ) (l : List ℕ) (s : ℕ) (e : Entry) → Taken K → EachCaused [] K → Caused K e → standing c K ≡ Held (Session l s) → Stays x c l s e
+unfolding Stays
+held-stays K x c l s (Took k t d) taken caused cause held =
+    inl (other-stays (d == c) (Held (Session k t)) (Held (Session l s)) (λ h. held-not_ready K l s c d held (eqb-true d c h) cause.1.0))
+held-stays K x c l s (Delivered p k g q d no_ack) taken caused cause held =
+    inl (other-stays (d == c) (handed no_ack (Channel p k g)) (Held (Session l s)) (λ h. held-not_ready K l s c d held (eqb-true d c h) cause))
+held-stays K x c l s (Acked p k d) taken caused cause held =
+    inl (other-stays (d == c) Left (Held (Session l s)) (λ h. held-not_client's K l s c d p k held (eqb-true d c h) cause))
+held-stays K x c l s (Rejected p k d) taken caused cause held =
+    inl (other-stays (d == c) Left (Held (Session l s)) (λ h. held-not_client's K l s c d p k held (eqb-true d c h) cause))
+held-stays K x c l s (Requeued p k d) taken caused cause held =
+    inl (other-stays (d == c) Ready (Held (Session l s)) (λ h. held-not_client's K l s c d p k held (eqb-true d c h) cause))
+held-stays K x c l s (Settled k t d) taken caused cause held =
+    settled-stays (d == c) l s c (Settled k t d) (λ h. settled-by K k t d l s c taken caused cause held (eqb-true d c h))
+held-stays K x c l s _ taken caused cause held = inl refl
 
 entered-taken : (K : List Entry) → EachCaused [] K → (l : List ℕ) (s c : ℕ) → IsIn (Took l s c) K → list_any (enters c) K ≡ true
 entered-taken K caused l s c taken =
@@ -127,13 +120,68 @@ entered-taken K caused l s c taken =
     let cause : EachCaused [] at.0 × Caused at.0 (Took l s c) = caused-at K at.0 (Took l s c) caused (at.1, at.2) in
     subst (λ J. list_any (enters c) J ≡ true) (sym at.2) (list_any-longer (enters c) at.0 (Took l s c ∷ at.1) cause.1.0)
 
+taken-held : (K : List Entry) (e : Entry) (x : Publication) (l : List ℕ) (s c : ℕ) → publication_of c K ≡ Some x → standing c K ≡ Held (Session l s) → Stays x c l s e → IsTakenBy (K ++ e ∷ []) l s c
+unfolding IsTakenBy Stays
+taken-held K e x l s c of_copy held (inl stays) =
+    inl (standing-push c x K e of_copy ∙ ap (λ t. standing_step c x t e) held ∙ stays)
+taken-held K e x l s c of_copy held (inr removed) =
+    inr (standing-push c x K e of_copy ∙ ap (λ t. standing_step c x t e) held ∙ removed.0, subst (λ d. IsIn d (K ++ e ∷ [])) removed.1 (in-middle e K []))
+
+taken-old : (K : List Entry) (e : Entry) (x : Publication) (l : List ℕ) (s c : ℕ) → Taken K → EachCaused [] K → Caused K e → publication_of c K ≡ Some x → IsTakenBy K l s c → IsTakenBy (K ++ e ∷ []) l s c
+unfolding IsTakenBy
+taken-old K e x l s c taken caused cause of_copy (inl held) =
+    taken-held K e x l s c of_copy held (held-stays K x c l s e taken caused cause held)
+taken-old K e x l s c taken caused cause of_copy (inr gone) =
+    inr (standing-push c x K e of_copy ∙ ap (λ t. standing_step c x t e) gone.0, in-longer (Settled l s c) K (e ∷ []) gone.1)
+
+-- a copy that is taken was ready, and is held by who takes it
+taken-new : (K : List Entry) (l : List ℕ) (s c : ℕ) → Caused K (Took l s c) → standing c (K ++ Took l s c ∷ []) ≡ Held (Session l s)
+taken-new K l s c cause =
+    let x : (x : Publication) × (publication_of c K ≡ Some x) = published-of c K cause.0 in
+    standing-push c x.0 K (Took l s c) x.1 ∙ ap (λ t. standing_step c x.0 t (Took l s c)) (waiting-is (standing c K) cause.1.0)
+    ∙ ap (λ b. cond b (Held (Session l s)) Ready) (eq-eqb c c refl)
+
+taken-by : (K : List Entry) (e : Entry) → Taken K → EachCaused [] K → Caused K e → (l : List ℕ) (s c : ℕ) → IsIn (Took l s c) K ⊎ (e ≡ Took l s c) → IsTakenBy (K ++ e ∷ []) l s c
+unfolding Taken IsTakenBy
+taken-by K e taken caused cause l s c (inl h) =
+    let x : (x : Publication) × (publication_of c K ≡ Some x) = published-of c K (entered-taken K caused l s c h) in
+    taken-old K e x.0 l s c taken caused cause x.1 (taken l s c h)
+taken-by K e taken caused cause l s c (inr same) =
+    inl (subst (λ d. standing c (K ++ d ∷ []) ≡ Held (Session l s)) (sym same) (taken-new K l s c (subst (Caused K) same cause)))
+
+taken-push : (K : List Entry) (e : Entry) → Taken K → EachCaused [] K → Caused K e → Taken (K ++ e ∷ [])
+unfolding Taken
+taken-push K e taken caused cause l s c h = taken-by K e taken caused cause l s c (in-push_cases (Took l s c) e K h)
+
+taken-each : (K es : List Entry) → Taken K → EachCaused [] K → EachCaused K es → Taken (K ++ es)
+taken-each K [] taken caused h = subst Taken (sym (append-nil K)) taken
+taken-each K (e ∷ es) taken caused h =
+    subst Taken (append_assoc K (e ∷ []) es)
+    (taken-each (K ++ e ∷ []) es (taken-push K e taken caused h.0) (caused-append [] K (e ∷ []) caused (h.0, tt)) h.1)
+
+taken-all : (J : List Entry) → EachCaused [] J → Taken J
+unfolding Taken
+taken-all J h = taken-each [] J (λ l s c k. absurd k) tt h
+
+settled-seen : (K L : List Entry) (l : List ℕ) (s c : ℕ) → StandsAfter L (Settled l s c) K → has (settled_for l s) c K ≡ true
+settled-seen K L l s c stands =
+    subst (λ J. has (settled_for l s) c J ≡ true) (sym stands.1) (any-middle (λ e. is_number c (settled_for l s e)) (Settled l s c) L stands.0 (settled_for-same l s c))
+
+-- where its removal for the session doesn't stand, the session holds it
+still-held : (K : List Entry) (l : List ℕ) (s c : ℕ) → IsTakenBy K l s c → ((L : List Entry) → StandsAfter L (Settled l s c) K → ⊥) → standing c K ≡ Held (Session l s)
+unfolding IsTakenBy
+still-held K l s c (inl held) still = held
+still-held K l s c (inr gone) still =
+    let at : (before : List Entry) × (rest : List Entry) × (K ≡ before ++ Settled l s c ∷ rest) = in-split (Settled l s c) K gone.1 in
+    absurd (still at.0 (at.1, at.2))
+
 -- a copy that a session took is alive and held by it, where it wasn't removed for it
 held-taken : (K : List Entry) → EachCaused [] K → (l : List ℕ) (s c : ℕ) → IsIn (Took l s c) K → ((L : List Entry) → StandsAfter L (Settled l s c) K → ⊥) → (is_alive K c ≡ true) × (holder K c ≡ Some (Session l s))
-unfolding is_released holder
+unfolding Taken
 held-taken K caused l s c taken still =
-    let there : is_gone K c ≡ false = not_gone-by (is_gone K c) (λ gone. let removed : (before : List Entry) × StandsAfter before (Settled l s c) K = removed-for K caused l s c taken gone in still removed.0 removed.1) in (
-      and_from (list_any (enters c) K) (not (is_gone K c)) (entered-taken K caused l s c taken) (not_from_false (is_gone K c) there),
-      cond-false (is_gone K c) None (fold (hold_step c) None K) there ∙ taken-all K caused l s c taken,
+    let held : standing c K ≡ Held (Session l s) = still-held K l s c (taken-all K caused l s c taken) still in (
+      and_from (list_any (enters c) K) (not (is_gone K c)) (entered-taken K caused l s c taken) (not_from_false (is_gone K c) (ap is_left held)),
+      ap holder_in held,
     )
 
 pub holds-at : (J : List Entry) → EachCaused [] J → HoldsTaken J

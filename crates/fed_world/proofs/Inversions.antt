@@ -10,7 +10,7 @@ use Rattle.fed_journal.specs.declared.entry.Publication.{Publication}
 use Rattle.fed_journal.specs.declared.entry.Entry.{Entry}
 use Rattle.fed_journal.specs.declared.entry.Entry.TheVariants.{Published, Took, Sent, Confirmed, Noted, Settled}
 use Rattle.fed_journal.specs.Names.{same_text}
-use Rattle.fed_journal.specs.Copies.{find_publication, releases}
+use Rattle.fed_journal.specs.Copies.{find_publication}
 use Rattle.fed_journal.specs.Flight.{of_session, taken_by, sent_by, copy_published_by, number_if, published_by, confirmed_to, noted_by, settled_for, copy_of_publication, copy_from, confirmed_copy, is_number}
 
 pub same_text-true : (a b : List ℕ) → same_text a b ≡ true → a ≡ b
@@ -56,7 +56,7 @@ confirmed_to-is l s p (Confirmed k t q) h = same-entry Confirmed l s k t q p (of
 confirmed_to-is l s p _ h = absurd (none-some p h)
 
 pub published_by-is : (l : List ℕ) (s c : ℕ) (by : Publisher) → copy_published_by l s by ≡ Some c → by ≡ Link l s c
-published_by-is l s c (Client connection channel) h = absurd (none-some c h)
+published_by-is l s c (Client client) h = absurd (none-some c h)
 published_by-is l s c (Link k t d) h =
     let same : Same l s k t d c = of_session-some l s k t d c h in
     cc (same.link, same.session, same.number)
@@ -80,11 +80,6 @@ confirms-from J l s c e (Some p) h k = confirms-of J l s c e p (find_publication
 
 pub confirmed_copy-is : (J : List Entry) (l : List ℕ) (s c : ℕ) (e : Entry) → confirmed_copy J l s e ≡ Some c → Confirms J l s c e
 confirmed_copy-is J l s c e h = confirms-from J l s c e (confirmed_to l s e) refl h
-
--- an entry by which the copy is gone
-pub releases-is : (c : ℕ) (e : Entry) → releases c e ≡ true → (l : List ℕ) × (s : ℕ) × (e ≡ Settled l s c)
-releases-is c (Settled l s d) h = (l, s, ap (Settled l s) (eqb-true d c h))
-releases-is c _ h = absurd (false≢true h)
 
 -- a session's settle is seen where one asks for it
 pub settled_for-same : (l : List ℕ) (s c : ℕ) → is_number c (settled_for l s (Settled l s c)) ≡ true

@@ -14,4 +14,5 @@ pub mod RunKept
 pub mod SoundLemmas
 pub mod Spares
 pub mod Stages
+pub mod Standings
 pub mod Stored

@@ -6,7 +6,7 @@ use Rattle.std.proofs.lemmas.Bool.{and_from, le-leb, lt-ltb}
 use Rattle.std.proofs.lemmas.Option.{none-some, same_Some}
 use Rattle.fed_journal.specs.declared.place.Place.{Place}
 use Rattle.fed_journal.specs.declared.event.Event.{Event}
-use Rattle.fed_journal.specs.declared.event.Event.TheVariants.{DeclareQueue, Publish, Flush, SetShovel, Open, Take, Send, Accept, Confirm, Note, Settle, Show}
+use Rattle.fed_journal.specs.declared.event.Event.TheVariants.{DeclareQueue, Publish, Consume, Cancel, Deliver, Get, Ack, Reject, Requeue, Purge, Close, Flush, SetShovel, Open, Take, Send, Accept, Confirm, Note, Settle, Show}
 use Rattle.fed_journal.specs.declared.event.Shovel.{Shovel}
 use Rattle.fed_journal.specs.declared.link.LinkSpec.{LinkSpec}
 use Rattle.fed_journal.specs.declared.link.StartState.{StartState}
@@ -18,11 +18,18 @@ use Rattle.fed_journal.specs.Configuration.{is_broker}
 use Rattle.fed_journal.specs.Names.{same_text, same_place}
 use Rattle.fed_journal.specs.Copies.{enters, entered, entered_by, is_copy_of, is_secured, publication_of}
 use Rattle.fed_journal.specs.Flight.{has, taken_by, sent_by, published_from, published_by, confirmed_to, noted_by, settled_for, confirmed_copy, flight_took, flight_sent, flight_published, flight_confirmed, flight_noted}
-use Rattle.fed_journal.specs.Holds.{is_ready, first_ready, ready_count}
+use Rattle.fed_journal.specs.Holds.{is_ready, is_held_by, first_ready, ready_count}
+use Rattle.fed_journal.specs.Consumers.{Consumer, consumer}
 use Rattle.fed_journal.specs.Links.{link_of, links_of, is_named, is_shovel_set}
 use Rattle.fed_journal.specs.Phases.{phase, session, is_open}
 use Rattle.fed_world.specs.declared.reason.Reason.TheVariants as why
-use Rattle.fed_world.specs.Row.{oldest}
+use Rattle.fed_world.specs.Row.{oldest, queue_refusal, channel_of}
+use Rattle.fed_world.specs.Answer.{answer_refusal, ack_row, reject_row, requeue_row}
+use Rattle.fed_world.specs.Consume.{consumes, consume_row, cancel_row}
+use Rattle.fed_world.specs.Deliver.{is_busy, deliver_to, deliver_row}
+use Rattle.fed_world.specs.Get.{get_row}
+use Rattle.fed_world.specs.Purge.{purge_row}
+use Rattle.fed_world.specs.Close.{close_row}
 use Rattle.fed_world.specs.Declare.{declare_row, stands, is_refused, lasting}
 use Rattle.fed_world.specs.Publish.{publish_row}
 use Rattle.fed_world.specs.Flush.{flush_row}
@@ -45,7 +52,7 @@ use Rattle.std.proofs.Common.{◌∙◌}
 use Rattle.std.specs.Prelude.{codes}
 use Rattle.std.proofs.lemmas.Bool.{and_parts}
 use Rattle.fed_journal.specs.Configuration.{is_place}
-use Rattle.fed_world.proofs.RowHas.{if_not-has, at_known_place-has, while_known_open-has, RowHas, either-has, at_place-has, with_link-has, while_open-has, one_or_empty-has}
+use Rattle.fed_world.proofs.RowHas.{unless_refused-has, unless_known_refused-has, if_not-has, at_known_place-has, while_known_open-has, RowHas, either-has, at_place-has, with_link-has, while_open-has, one_or_empty-has}
 use Rattle.fed_world.proofs.Stored.{position-within}
 
 -- the place of an entry that is known to be another
@@ -255,10 +262,71 @@ open_row-caused : (J : List Entry) (l : List ℕ) → RowHas (EachCaused J) (ope
 unfolding open_row
 open_row-caused J l = with_link-has (EachCaused J) J l _ (λ spec d. open_if_startable-caused J spec spec.start (subst (λ k. link_of J k ≡ Some spec) (sym (named J l spec d)) d))
 
+get_row-caused : (J : List Entry) (p : Place) (client : ℕ) (q : List ℕ) (no_ack : Bool) → RowHas (EachCaused J) (get_row J p client q no_ack)
+unfolding get_row
+get_row-caused J p client q no_ack =
+    at_place-has (EachCaused J) J p _ (unless_refused-has (EachCaused J) (queue_refusal J p q) _ (one_or_empty-has (EachCaused J) _ (first_ready J p q) (λ c e. ((take-cause J (Some p) q c e).1, tt))))
+
+deliver_to-caused : (J : List Entry) (p : Place) (client : ℕ) (tag : List ℕ) (o : Option Consumer) → RowHas (EachCaused J) (deliver_to J p client tag o)
+deliver_to-caused J p client tag None = tt
+deliver_to-caused J p client tag (Some k) =
+    either-has (EachCaused J) (is_busy J p client tag k) _ _ tt (one_or_empty-has (EachCaused J) _ (first_ready J p k.queue) (λ c e. ((take-cause J (Some p) k.queue c e).1, tt)))
+
+deliver_row-caused : (J : List Entry) (p : Place) (client : ℕ) (tag : List ℕ) → RowHas (EachCaused J) (deliver_row J p client tag)
+unfolding deliver_row
+deliver_row-caused J p client tag = at_place-has (EachCaused J) J p _ (deliver_to-caused J p client tag (consumer J p (channel_of client) tag))
+
+-- a client's answer that isn't refused is for a copy that it holds
+none-held : (a b : Bool) → cond a (cond b None (Some why.NotHeld)) (Some why.NoPlace) ≡ None → b ≡ true
+none-held true true h = refl
+none-held true false h = absurd (none-some why.NotHeld (sym h))
+none-held false b h = absurd (none-some why.NoPlace (sym h))
+
+answer-held : (J : List Entry) (p : Place) (client c : ℕ) → answer_refusal J p client c ≡ None → is_held_by J p (channel_of client) c ≡ true
+answer-held J p client c h = none-held (is_place J p) (is_held_by J p (channel_of client) c) h
+
+ack_row-caused : (J : List Entry) (p : Place) (client c : ℕ) → RowHas (EachCaused J) (ack_row J p client c)
+unfolding ack_row
+ack_row-caused J p client c = unless_known_refused-has (EachCaused J) (answer_refusal J p client c) _ (λ h. (answer-held J p client c h, tt))
+
+reject_row-caused : (J : List Entry) (p : Place) (client c : ℕ) → RowHas (EachCaused J) (reject_row J p client c)
+unfolding reject_row
+reject_row-caused J p client c = unless_known_refused-has (EachCaused J) (answer_refusal J p client c) _ (λ h. (answer-held J p client c h, tt))
+
+requeue_row-caused : (J : List Entry) (p : Place) (client c : ℕ) → RowHas (EachCaused J) (requeue_row J p client c)
+unfolding requeue_row
+requeue_row-caused J p client c = unless_known_refused-has (EachCaused J) (answer_refusal J p client c) _ (λ h. (answer-held J p client c h, tt))
+
+consume_row-caused : (J : List Entry) (p : Place) (client : ℕ) (q tag : List ℕ) (no_ack : Bool) (prefetch : ℕ) → RowHas (EachCaused J) (consume_row J p client q tag no_ack prefetch)
+unfolding consume_row
+consume_row-caused J p client q tag no_ack prefetch =
+    at_place-has (EachCaused J) J p _ (unless_refused-has (EachCaused J) (queue_refusal J p q) _ (either-has (EachCaused J) (consumes J p client tag) _ _ tt (tt, tt)))
+
+cancel_row-caused : (J : List Entry) (p : Place) (client : ℕ) (tag : List ℕ) → RowHas (EachCaused J) (cancel_row J p client tag)
+unfolding cancel_row
+cancel_row-caused J p client tag = at_place-has (EachCaused J) J p _ (either-has (EachCaused J) (consumes J p client tag) _ (Ok []) (tt, tt) tt)
+
+purge_row-caused : (J : List Entry) (p : Place) (q : List ℕ) → RowHas (EachCaused J) (purge_row J p q)
+unfolding purge_row
+purge_row-caused J p q = at_place-has (EachCaused J) J p _ (unless_refused-has (EachCaused J) (queue_refusal J p q) _ (tt, tt))
+
+close_row-caused : (J : List Entry) (p : Place) (client : ℕ) → RowHas (EachCaused J) (close_row J p client)
+unfolding close_row
+close_row-caused J p client = at_place-has (EachCaused J) J p _ (tt, tt)
+
 -- whatever the event
 pub next-caused : (J : List Entry) (e : Event) → RowHas (EachCaused J) (next J e)
 next-caused J (DeclareQueue p c q) = declare_row-caused J p q
 next-caused J (Publish p c key body persistent) = publish_row-caused J p c key body persistent
+next-caused J (Consume p client q tag no_ack prefetch) = consume_row-caused J p client q tag no_ack prefetch
+next-caused J (Cancel p client tag) = cancel_row-caused J p client tag
+next-caused J (Deliver p client tag) = deliver_row-caused J p client tag
+next-caused J (Get p client q no_ack) = get_row-caused J p client q no_ack
+next-caused J (Ack p client c) = ack_row-caused J p client c
+next-caused J (Reject p client c) = reject_row-caused J p client c
+next-caused J (Requeue p client c) = requeue_row-caused J p client c
+next-caused J (Purge p client q) = purge_row-caused J p q
+next-caused J (Close p client) = close_row-caused J p client
 next-caused J (Flush b) = flush_row-caused J b
 next-caused J (SetShovel p name shovel) = set_shovel_row-caused J p name shovel
 next-caused J (Open l) = open_row-caused J l

@@ -4,7 +4,7 @@ use Rattle.std.specs.Prelude.{Ok, Err, not, ◌&&◌, if◌then◌else◌, find}
 use Rattle.fed_journal.specs.declared.place.Place.{Place}
 use Rattle.fed_journal.specs.declared.message.Message.{Message}
 use Rattle.fed_journal.specs.declared.event.Event.{Event}
-use Rattle.fed_journal.specs.declared.event.Event.TheVariants.{DeclareQueue, Publish, Flush, SetShovel, Open, Take, Send, Accept, Confirm, Note, Settle, Show}
+use Rattle.fed_journal.specs.declared.event.Event.TheVariants.{DeclareQueue, Publish, Consume, Cancel, Deliver, Get, Ack, Reject, Requeue, Purge, Close, Flush, SetShovel, Open, Take, Send, Accept, Confirm, Note, Settle, Show}
 use Rattle.fed_journal.specs.declared.event.Shovel.{Shovel}
 use Rattle.fed_journal.specs.declared.link.LinkSpec.{LinkSpec}
 use Rattle.fed_journal.specs.declared.link.StartState.{StartState}
@@ -19,11 +19,19 @@ use Rattle.fed_journal.specs.Names.{is_reserved}
 use Rattle.fed_journal.specs.Copies.{copy_count, publication_of, is_secured}
 use Rattle.fed_journal.specs.Links.{link_of, is_shovel_set}
 use Rattle.fed_journal.specs.Phases.{phase, session, is_open}
-use Rattle.fed_journal.specs.Holds.{ready_count}
+use Rattle.fed_journal.specs.Holds.{first_ready, ready_count}
+use Rattle.fed_journal.specs.Consumers.{Consumer, consumer}
 use Rattle.fed_journal.specs.Outgoing.{outgoing}
 use Rattle.fed_journal.specs.Flight.{flight_took, flight_sent, flight_published, flight_confirmed, flight_noted}
+use Rattle.fed_world.specs.declared.reason.Reason.{Reason}
 use Rattle.fed_world.specs.declared.reason.Reason.TheVariants as why
-use Rattle.fed_world.specs.Row.{Row, at_place, with_link, with_spec, while_open, one_or_empty, oldest}
+use Rattle.fed_world.specs.Row.{Row, at_place, with_link, with_spec, while_open, unless_refused, queue_refusal, channel_of, one_or_empty, oldest}
+use Rattle.fed_world.specs.Answer.{answer_refusal, ack_row, reject_row, requeue_row}
+use Rattle.fed_world.specs.Consume.{consumes, consume_row, cancel_row}
+use Rattle.fed_world.specs.Deliver.{is_busy, deliver_to, deliver_row}
+use Rattle.fed_world.specs.Get.{get_row}
+use Rattle.fed_world.specs.Purge.{purge_row}
+use Rattle.fed_world.specs.Close.{close_row}
 use Rattle.fed_world.specs.Declare.{declare_row, stands, is_refused, lasting}
 use Rattle.fed_world.specs.Publish.{publish_row, published, routes, first_copy, message}
 use Rattle.fed_world.specs.Flush.{flush_row}
@@ -54,6 +62,56 @@ while_open-fits J l row h = elim (is_open (phase J l)) as (λ b. RowFits J (if b
 pub one_or_empty-fits : (J : List Entry) (entry : ℕ → Entry) (n : Option ℕ) → ((m : ℕ) → FitsEntry J (entry m)) → RowFits J (one_or_empty entry n)
 one_or_empty-fits J entry None h = tt
 one_or_empty-fits J entry (Some m) h = (h m, tt)
+
+unless_refused-fits : (J : List Entry) (o : Option Reason) (row : Row) → RowFits J row → RowFits J (unless_refused o row)
+unless_refused-fits J None row h = h
+unless_refused-fits J (Some reason) row h = tt
+
+either-fits : (J : List Entry) (b : Bool) (yes' no' : Row) → RowFits J yes' → RowFits J no' → RowFits J (if b then yes' else no')
+either-fits J true yes' no' h k = h
+either-fits J false yes' no' h k = k
+
+get_row-fits : (J : List Entry) (p : Place) (client : ℕ) (q : List ℕ) (no_ack : Bool) → RowFits J (get_row J p client q no_ack)
+unfolding get_row
+get_row-fits J p client q no_ack =
+    at_place-fits J p _ (unless_refused-fits J (queue_refusal J p q) _ (one_or_empty-fits J _ (first_ready J p q) (λ m. tt)))
+
+deliver_to-fits : (J : List Entry) (p : Place) (client : ℕ) (tag : List ℕ) (o : Option Consumer) → RowFits J (deliver_to J p client tag o)
+deliver_to-fits J p client tag None = tt
+deliver_to-fits J p client tag (Some k) = either-fits J (is_busy J p client tag k) _ _ tt (one_or_empty-fits J _ (first_ready J p k.queue) (λ m. tt))
+
+deliver_row-fits : (J : List Entry) (p : Place) (client : ℕ) (tag : List ℕ) → RowFits J (deliver_row J p client tag)
+unfolding deliver_row
+deliver_row-fits J p client tag = at_place-fits J p _ (deliver_to-fits J p client tag (consumer J p (channel_of client) tag))
+
+ack_row-fits : (J : List Entry) (p : Place) (client c : ℕ) → RowFits J (ack_row J p client c)
+unfolding ack_row
+ack_row-fits J p client c = unless_refused-fits J (answer_refusal J p client c) _ (tt, tt)
+
+reject_row-fits : (J : List Entry) (p : Place) (client c : ℕ) → RowFits J (reject_row J p client c)
+unfolding reject_row
+reject_row-fits J p client c = unless_refused-fits J (answer_refusal J p client c) _ (tt, tt)
+
+requeue_row-fits : (J : List Entry) (p : Place) (client c : ℕ) → RowFits J (requeue_row J p client c)
+unfolding requeue_row
+requeue_row-fits J p client c = unless_refused-fits J (answer_refusal J p client c) _ (tt, tt)
+
+consume_row-fits : (J : List Entry) (p : Place) (client : ℕ) (q tag : List ℕ) (no_ack : Bool) (prefetch : ℕ) → RowFits J (consume_row J p client q tag no_ack prefetch)
+unfolding consume_row
+consume_row-fits J p client q tag no_ack prefetch =
+    at_place-fits J p _ (unless_refused-fits J (queue_refusal J p q) _ (either-fits J (consumes J p client tag) _ _ tt (tt, tt)))
+
+cancel_row-fits : (J : List Entry) (p : Place) (client : ℕ) (tag : List ℕ) → RowFits J (cancel_row J p client tag)
+unfolding cancel_row
+cancel_row-fits J p client tag = at_place-fits J p _ (either-fits J (consumes J p client tag) _ (Ok []) (tt, tt) tt)
+
+purge_row-fits : (J : List Entry) (p : Place) (q : List ℕ) → RowFits J (purge_row J p q)
+unfolding purge_row
+purge_row-fits J p q = at_place-fits J p _ (unless_refused-fits J (queue_refusal J p q) _ (tt, tt))
+
+close_row-fits : (J : List Entry) (p : Place) (client : ℕ) → RowFits J (close_row J p client)
+unfolding close_row
+close_row-fits J p client = at_place-fits J p _ (tt, tt)
 
 flush_row-fits : (J : List Entry) (b : List ℕ) → RowFits J (flush_row J b)
 unfolding flush_row
@@ -89,7 +147,7 @@ published-fits J p by m small = routes-fit J (routes J p m) (routes-few J p m) s
 publish_row-fits : (J : List Entry) (p : Place) (client : ℕ) (key body : List ℕ) (persistent : Bool) → copy_count J < 2 ^ 63 → RowFits J (publish_row J p client key body persistent)
 unfolding publish_row
 publish_row-fits J p client key body persistent small =
-    at_place-fits J p _ (published-fits J p (Client client 1) (message key body persistent) small, tt)
+    at_place-fits J p _ (published-fits J p (Client (channel_of client)) (message key body persistent) small, tt)
 
 accepted-fits : (J : List Entry) (spec : LinkSpec) (c : ℕ) (target : Option Place) (x : Option Publication) → copy_count J < 2 ^ 63 → RowFits J (accepted J spec c target x)
 accepted-fits J spec c (Some target) (Some x) small = (published-fits J target (Link spec.name (session J spec.name) c) (outgoing spec x.message) small, tt)
@@ -160,6 +218,15 @@ open_row-fits J l h = with_link-fits J l _ (λ spec. open_if_startable-fits J sp
 pub next-fits : (J : List Entry) (e : Event) → copy_count J < 2 ^ 63 → ((k : List ℕ) → session J k ≤ length J) → RowFits J (next J e)
 next-fits J (DeclareQueue p c q) small h = declare_row-fits J p q
 next-fits J (Publish p c key body persistent) small h = publish_row-fits J p c key body persistent small
+next-fits J (Consume p client q tag no_ack prefetch) small h = consume_row-fits J p client q tag no_ack prefetch
+next-fits J (Cancel p client tag) small h = cancel_row-fits J p client tag
+next-fits J (Deliver p client tag) small h = deliver_row-fits J p client tag
+next-fits J (Get p client q no_ack) small h = get_row-fits J p client q no_ack
+next-fits J (Ack p client c) small h = ack_row-fits J p client c
+next-fits J (Reject p client c) small h = reject_row-fits J p client c
+next-fits J (Requeue p client c) small h = requeue_row-fits J p client c
+next-fits J (Purge p client q) small h = purge_row-fits J p q
+next-fits J (Close p client) small h = close_row-fits J p client
 next-fits J (Flush b) small h = flush_row-fits J b
 next-fits J (SetShovel p name shovel) small h = set_shovel_row-fits J p name shovel
 next-fits J (Open l) small h = open_row-fits J l h

@@ -7,8 +7,9 @@ use Rattle.fed_journal.specs.declared.entry.Entry.{Entry}
 use Rattle.fed_journal.specs.Configuration.{is_place}
 use Rattle.fed_journal.specs.Links.{link_of}
 use Rattle.fed_journal.specs.Phases.{phase, is_open}
+use Rattle.fed_world.specs.declared.reason.Reason.{Reason}
 use Rattle.fed_world.specs.declared.reason.Reason.TheVariants.{NoPlace, NotOpen}
-use Rattle.fed_world.specs.Row.{Row, at_place, with_link, with_spec, while_open, one_or_empty}
+use Rattle.fed_world.specs.Row.{Row, at_place, with_link, with_spec, while_open, unless_refused, one_or_empty}
 
 -- P of the row's entries, if it has any
 abbrev pub RowHas : (List Entry → Type 0) → Row → Type 0
@@ -49,3 +50,11 @@ while_open-has P J l row h = either-has P (is_open (phase J l)) row (Err NotOpen
 pub one_or_empty-has : (P : List Entry → Type 0) (entry : ℕ → Entry) (o : Option ℕ) → ((n : ℕ) → o ≡ Some n → P (entry n ∷ [])) → RowHas P (one_or_empty entry o)
 one_or_empty-has P entry None h = tt
 one_or_empty-has P entry (Some n) h = h n refl
+
+pub unless_refused-has : (P : List Entry → Type 0) (o : Option Reason) (row : Row) → RowHas P row → RowHas P (unless_refused o row)
+unless_refused-has P None row h = h
+unless_refused-has P (Some reason) row h = tt
+
+pub unless_known_refused-has : (P : List Entry → Type 0) (o : Option Reason) (row : Row) → (o ≡ None → RowHas P row) → RowHas P (unless_refused o row)
+unless_known_refused-has P None row h = h refl
+unless_known_refused-has P (Some reason) row h = tt

@@ -1,11 +1,10 @@
--- No event but a settle appends an entry by which a copy is gone.
-use Rattle.std.proofs.Common.{◌≡◌, ℕ, ◌+◌, List, [], ◌∷◌, ◌++◌, Bool, true, false, Option, Some, None, refl, sym, subst, append_assoc}
-use Rattle.std.specs.Prelude.{Ok, Err, not, find}
-use Rattle.std.specs.List.{list_any}
+-- No event but a removal appends an entry by which a copy is gone.
+use Rattle.std.proofs.Common.{◌≡◌, ℕ, ◌+◌, List, [], ◌∷◌, ◌++◌, Bool, true, false, Option, Some, None, refl, sym, subst, ap, ◌∙◌, append_assoc}
+use Rattle.std.specs.Prelude.{Ok, Err, not, cond, ◌==◌, find}
 use Rattle.std.proofs.lemmas.Bool.{true≢false}
 use Rattle.fed_journal.specs.declared.place.Place.{Place}
 use Rattle.fed_journal.specs.declared.event.Event.{Event}
-use Rattle.fed_journal.specs.declared.event.Event.TheVariants.{DeclareQueue, Publish, Flush, SetShovel, Open, Take, Send, Accept, Confirm, Note, Settle, Show}
+use Rattle.fed_journal.specs.declared.event.Event.TheVariants.{DeclareQueue, Publish, Consume, Cancel, Deliver, Get, Ack, Reject, Requeue, Purge, Close, Flush, SetShovel, Open, Take, Send, Accept, Confirm, Note, Settle, Show}
 use Rattle.fed_journal.specs.declared.event.Shovel.{Shovel}
 use Rattle.fed_journal.specs.declared.link.LinkSpec.{LinkSpec}
 use Rattle.fed_journal.specs.declared.link.StartState.{StartState}
@@ -14,13 +13,17 @@ use Rattle.fed_journal.specs.declared.entry.Publication.{Publication}
 use Rattle.fed_journal.specs.declared.entry.Entry.{Entry}
 use Rattle.fed_journal.specs.declared.entry.Entry.TheVariants.{MadeQueue, Opened, Flushed, ShovelSet}
 use Rattle.fed_journal.specs.Configuration.{is_broker}
-use Rattle.fed_journal.specs.Copies.{releases, publication_of, is_secured}
+use Rattle.fed_journal.specs.Copies.{Standing, Unknown, Ready, Held, Left, is_left, closed, standing_step, publication_of, is_secured}
+use Rattle.fed_journal.specs.Holders.{is_connection}
 use Rattle.fed_journal.specs.Links.{is_shovel_set}
 use Rattle.fed_journal.specs.Phases.{phase, session, is_open}
 use Rattle.fed_journal.specs.Holds.{ready_count}
 use Rattle.fed_journal.specs.Flight.{flight_took, flight_sent, flight_published, flight_confirmed}
 use Rattle.fed_world.specs.declared.reason.Reason.TheVariants as why
-use Rattle.fed_world.specs.Row.{oldest}
+use Rattle.fed_world.specs.Row.{oldest, queue_refusal}
+use Rattle.fed_world.specs.Answer.{answer_refusal, requeue_row}
+use Rattle.fed_world.specs.Consume.{consumes, consume_row, cancel_row}
+use Rattle.fed_world.specs.Close.{close_row}
 use Rattle.fed_world.specs.Declare.{declare_row, stands, is_refused, lasting}
 use Rattle.fed_world.specs.Publish.{publish_row}
 use Rattle.fed_world.specs.Flush.{flush_row}
@@ -32,14 +35,38 @@ use Rattle.fed_world.specs.Confirm.{confirm_row, confirm_first, confirmed}
 use Rattle.fed_world.specs.Note.{note_row}
 use Rattle.fed_world.specs.Step.{next}
 use Rattle.fed_world.specs.Kept.{is_removal}
-use Rattle.fed_world.proofs.RowHas.{RowHas, either-has, at_place-has, with_link-has, while_open-has, one_or_empty-has}
+use Rattle.fed_world.proofs.RowHas.{RowHas, unless_refused-has, either-has, at_place-has, with_link-has, while_open-has, one_or_empty-has}
 
--- none of the entries removes a copy
+-- the entry takes no copy out of its queue
+abbrev pub SparesEach : Entry → Type 0
+SparesEach e = (c : ℕ) (x : Publication) (t : Standing) → is_left t ≡ false → is_left (standing_step c x t e) ≡ false
+
+-- none of the entries does
 abbrev pub Spares : List Entry → Type 0
-Spares es = (c : ℕ) → list_any (releases c) es ≡ false
+Spares [] = Unit {0}
+Spares (e ∷ es) = SparesEach e × Spares es
+
+-- an entry that changes nothing
+stays : (t : Standing) → is_left t ≡ false → is_left (cond (is_left t) Left t) ≡ false
+stays t h = ap (λ b. is_left (cond b Left t)) h ∙ h
+
+-- one that makes a copy ready
+readied : (t : Standing) (b : Bool) → is_left t ≡ false → is_left (cond (is_left t) Left (cond b Ready t)) ≡ false
+readied t true h = ap (λ b. is_left (cond b Left Ready)) h
+readied t false h = stays t h
+
+closed-stays : (p : Place) (n : ℕ) (t : Standing) → is_left t ≡ false → is_left (closed p n t) ≡ false
+closed-stays p n (Held holder) h = elim (is_connection p n holder) as (λ b. is_left (cond b Ready (Held holder)) ≡ false) [ true ↦ refl | false ↦ refl ]
+closed-stays p n Unknown h = h
+closed-stays p n Ready h = h
+closed-stays p n Left h = h
+
+-- one that ends a connection
+ended : (p : Place) (n : ℕ) (t : Standing) → is_left t ≡ false → is_left (cond (is_left t) Left (closed p n t)) ≡ false
+ended p n t h = ap (λ b. is_left (cond b Left (closed p n t))) h ∙ closed-stays p n t h
 
 accepted-spares : (J : List Entry) (spec : LinkSpec) (c : ℕ) (target : Option Place) (x : Option Publication) → RowHas Spares (accepted J spec c target x)
-accepted-spares J spec c (Some target) (Some x) = λ d. refl
+accepted-spares J spec c (Some target) (Some x) = (λ d y t h. stays t h, tt)
 accepted-spares J spec c (Some target) None = tt
 accepted-spares J spec c None x = tt
 
@@ -54,7 +81,7 @@ accept_row-spares J l =
 
 confirmed-spares : (l : List ℕ) (s : ℕ) (o : Option ℕ) → RowHas Spares (confirmed l s o)
 confirmed-spares l s None = tt
-confirmed-spares l s (Some p) = λ d. refl
+confirmed-spares l s (Some p) = (λ d y t h. stays t h, tt)
 
 confirm_first-spares : (J : List Entry) (l : List ℕ) (s : ℕ) (ps : List ℕ) → RowHas Spares (confirm_first J l s ps)
 confirm_first-spares J l s [] = tt
@@ -68,42 +95,42 @@ confirm_row-spares J l =
 send_row-spares : (J : List Entry) (l : List ℕ) → RowHas Spares (send_row J l)
 unfolding send_row
 send_row-spares J l =
-    with_link-has Spares J l _ (λ spec d. while_open-has Spares J l _ (one_or_empty-has Spares _ (oldest (flight_took J l (session J l))) (λ n e c. refl)))
+    with_link-has Spares J l _ (λ spec d. while_open-has Spares J l _ (one_or_empty-has Spares _ (oldest (flight_took J l (session J l))) (λ n e. (λ c y t h. stays t h, tt))))
 
 note_row-spares : (J : List Entry) (l : List ℕ) → RowHas Spares (note_row J l)
 unfolding note_row
 note_row-spares J l =
-    with_link-has Spares J l _ (λ spec d. while_open-has Spares J l _ (one_or_empty-has Spares _ (oldest (flight_confirmed J l (session J l))) (λ n e c. refl)))
+    with_link-has Spares J l _ (λ spec d. while_open-has Spares J l _ (one_or_empty-has Spares _ (oldest (flight_confirmed J l (session J l))) (λ n e. (λ c y t h. stays t h, tt))))
 
 flush_row-spares : (J : List Entry) (b : List ℕ) → RowHas Spares (flush_row J b)
 unfolding flush_row
-flush_row-spares J b = either-has Spares (is_broker J b) (Ok (Flushed b ∷ [])) (Err why.NoPlace) (λ c. refl) tt
+flush_row-spares J b = either-has Spares (is_broker J b) (Ok (Flushed b ∷ [])) (Err why.NoPlace) (λ c y t h. stays t h, tt) tt
 
 publish_row-spares : (J : List Entry) (p : Place) (client : ℕ) (key body : List ℕ) (persistent : Bool) → RowHas Spares (publish_row J p client key body persistent)
 unfolding publish_row
-publish_row-spares J p client key body persistent = at_place-has Spares J p _ (λ c. refl)
+publish_row-spares J p client key body persistent = at_place-has Spares J p _ (λ c y t h. stays t h, tt)
 
 set_shovel_row-spares : (J : List Entry) (p : Place) (name : List ℕ) (shovel : Shovel) → RowHas Spares (set_shovel_row J p name shovel)
 unfolding set_shovel_row
 set_shovel_row-spares J p name shovel =
-    at_place-has Spares J p _ (either-has Spares (is_shovel_set J p name) (Ok []) (Ok (ShovelSet p name shovel ∷ [])) (λ c. refl) (λ c. refl))
+    at_place-has Spares J p _ (either-has Spares (is_shovel_set J p name) (Ok []) (Ok (ShovelSet p name shovel ∷ [])) tt (λ c y t h. stays t h, tt))
 
 declare_row-spares : (J : List Entry) (p : Place) (q : List ℕ) → RowHas Spares (declare_row J p q)
 unfolding declare_row
 declare_row-spares J p q =
     at_place-has Spares J p _ (either-has Spares (is_refused J p q) _ _ tt
-    (either-has Spares (stands J p q) (Ok []) (Ok (MadeQueue p q lasting ∷ [])) (λ c. refl) (λ c. refl)))
+    (either-has Spares (stands J p q) (Ok []) (Ok (MadeQueue p q lasting ∷ [])) tt (λ c y t h. stays t h, tt)))
 
 -- a declaration spares, where what follows it does
 made_if-spares : (missing : Bool) (p : Place) (q : List ℕ) (es : List Entry) → Spares es → Spares (made_if missing p q ++ es)
-made_if-spares true p q es h = h
+made_if-spares true p q es h = (λ c y t k. stays t k, h)
 made_if-spares false p q es h = h
 
 opened-spares : (J : List Entry) (spec : LinkSpec) (source target : Option Place) → RowHas Spares (opened J spec source target)
 opened-spares J spec (Some source) (Some target) =
     subst Spares (sym (append_assoc (made_if (not (stands J source spec.source_queue)) source spec.source_queue) (made_if (is_target_missing J spec source target) target spec.target_queue) (Opened spec.name (session J spec.name + 1) (ready_count J source spec.source_queue) ∷ [])))
     (made_if-spares (not (stands J source spec.source_queue)) source spec.source_queue _
-    (made_if-spares (is_target_missing J spec source target) target spec.target_queue _ (λ c. refl)))
+    (made_if-spares (is_target_missing J spec source target) target spec.target_queue _ (λ c y t h. stays t h, tt)))
 opened-spares J spec (Some source) None = tt
 opened-spares J spec None target = tt
 
@@ -117,10 +144,37 @@ open_row-spares : (J : List Entry) (l : List ℕ) → RowHas Spares (open_row J 
 unfolding open_row
 open_row-spares J l = with_link-has Spares J l _ (λ spec d. open_if_startable-spares J spec spec.start)
 
+requeue_row-spares : (J : List Entry) (p : Place) (client c : ℕ) → RowHas Spares (requeue_row J p client c)
+unfolding requeue_row
+requeue_row-spares J p client c = unless_refused-has Spares (answer_refusal J p client c) _ (λ d y t h. readied t (c == d) h, tt)
+
+consume_row-spares : (J : List Entry) (p : Place) (client : ℕ) (q tag : List ℕ) (no_ack : Bool) (prefetch : ℕ) → RowHas Spares (consume_row J p client q tag no_ack prefetch)
+unfolding consume_row
+consume_row-spares J p client q tag no_ack prefetch =
+    at_place-has Spares J p _ (unless_refused-has Spares (queue_refusal J p q) _ (either-has Spares (consumes J p client tag) _ _ tt (λ c y t h. stays t h, tt)))
+
+cancel_row-spares : (J : List Entry) (p : Place) (client : ℕ) (tag : List ℕ) → RowHas Spares (cancel_row J p client tag)
+unfolding cancel_row
+cancel_row-spares J p client tag =
+    at_place-has Spares J p _ (either-has Spares (consumes J p client tag) _ (Ok []) (λ c y t h. stays t h, tt) tt)
+
+close_row-spares : (J : List Entry) (p : Place) (client : ℕ) → RowHas Spares (close_row J p client)
+unfolding close_row
+close_row-spares J p client = at_place-has Spares J p _ (λ c y t h. ended p client t h, tt)
+
 -- whatever the event, unless it is a removal
 pub next-spares : (J : List Entry) (e : Event) → is_removal e ≡ false → RowHas Spares (next J e)
 next-spares J (DeclareQueue p c q) h = declare_row-spares J p q
 next-spares J (Publish p c key body persistent) h = publish_row-spares J p c key body persistent
+next-spares J (Consume p client q tag no_ack prefetch) h = consume_row-spares J p client q tag no_ack prefetch
+next-spares J (Cancel p client tag) h = cancel_row-spares J p client tag
+next-spares J (Deliver p client tag) h = absurd (true≢false h)
+next-spares J (Get p client q no_ack) h = absurd (true≢false h)
+next-spares J (Ack p client c) h = absurd (true≢false h)
+next-spares J (Reject p client c) h = absurd (true≢false h)
+next-spares J (Requeue p client c) h = requeue_row-spares J p client c
+next-spares J (Purge p client q) h = absurd (true≢false h)
+next-spares J (Close p client) h = close_row-spares J p client
 next-spares J (Flush b) h = flush_row-spares J b
 next-spares J (SetShovel p name shovel) h = set_shovel_row-spares J p name shovel
 next-spares J (Open l) h = open_row-spares J l
@@ -130,4 +184,4 @@ next-spares J (Accept l) h = accept_row-spares J l
 next-spares J (Confirm l) h = confirm_row-spares J l
 next-spares J (Note l) h = note_row-spares J l
 next-spares J (Settle l) h = absurd (true≢false h)
-next-spares J Show h = λ c. refl
+next-spares J Show h = tt

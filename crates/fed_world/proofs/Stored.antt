@@ -1,6 +1,6 @@
 -- A copy that is alive and stored stays so while nothing removes it.
 use Rattle.std.proofs.Common.{◌≡◌, ℕ, ◌+◌, ◌<◌, List, [], ◌∷◌, ◌++◌, length, zero, suc, Bool, true, false, Option, Some, None, arith, refl, sym, subst, ap, take, drop, ◌∙◌}
-use Rattle.std.specs.Prelude.{Ok, Err, not, ◌||◌, cond, nat_lt, position, slice_get}
+use Rattle.std.specs.Prelude.{Ok, Err, not, ◌||◌, cond, fold, nat_lt, position, slice_get}
 use Rattle.std.specs.List.{list_any, position_or_len}
 use Rattle.std.proofs.lemmas.Bool.{false≢true, and_parts, and_from, or_left, ltb-true, lt-ltb, ne_eqb, not-true, not_from_false}
 use Rattle.std.proofs.lemmas.Option.{cond_some}
@@ -9,13 +9,14 @@ use Rattle.std.proofs.lemmas.List.{take-append-le, drop-append-le, length-append
 use Rattle.fed_journal.specs.declared.event.Event.{Event}
 use Rattle.fed_journal.specs.declared.entry.Publication.{Publication}
 use Rattle.fed_journal.specs.declared.entry.Entry.{Entry}
-use Rattle.fed_journal.specs.Copies.{enters, releases, flushes, is_released, is_gone, is_stored, must_be_stored, must_be_stored_from, must_be_stored_at, is_flushed_from, is_flushed_in, publication_in}
+use Rattle.fed_journal.specs.Copies.{Standing, is_left, standing, standing_step, publication_of, enters, flushes, is_gone, is_stored, must_be_stored, must_be_stored_from, must_be_stored_at, is_flushed_from, is_flushed_in, publication_in}
 use Rattle.fed_world.specs.Row.{Row}
 use Rattle.fed_world.specs.Step.{next, after}
 use Rattle.fed_world.specs.Run.{run, moment}
 use Rattle.fed_world.specs.Kept.{is_alive, EachMoment, KeepsStored}
 use Rattle.fed_world.proofs.RowHas.{RowHas}
 use Rattle.fed_world.proofs.Spares.{Spares, next-spares}
+use Rattle.fed_world.proofs.Standings.{published-of, standing-append}
 
 position_or_len-append : {X : Type 0} (p : X → Bool) (xs ys : List X) → position_or_len p xs < length xs → position_or_len p (xs ++ ys) ≡ position_or_len p xs
 position_or_len-append p xs ys h =
@@ -75,16 +76,20 @@ stored-append J es c h =
     and_from (must_be_stored (J ++ es) c) (is_flushed_from (J ++ es) (position (enters c) (J ++ es)))
     (must-append J es c (position (enters c) J) refl parts.0) (flushed-append J es c (position (enters c) J) refl parts.1)
 
-not_gone-append : (J es : List Entry) (c : ℕ) → Spares es → not (is_gone J c) ≡ true → not (is_gone (J ++ es) c) ≡ true
-unfolding is_released
-not_gone-append J es c spares h =
-    not_from_false (list_any (releases c) (J ++ es))
-    (list_any-append (releases c) J es ∙ subst (λ b. (b || list_any (releases c) es) ≡ false) (sym (not-true (list_any (releases c) J) h)) (spares c))
+spares-fold : (c : ℕ) (x : Publication) (t : Standing) (es : List Entry) → Spares es → is_left t ≡ false → is_left (fold (standing_step c x) t es) ≡ false
+spares-fold c x t [] spares h = h
+spares-fold c x t (e ∷ es) spares h = spares-fold c x (standing_step c x t e) es spares.1 (spares.0 c x t h)
+
+not_gone-append : (J es : List Entry) (c : ℕ) → Spares es → list_any (enters c) J ≡ true → not (is_gone J c) ≡ true → not (is_gone (J ++ es) c) ≡ true
+not_gone-append J es c spares there h =
+    let x : (x : Publication) × (publication_of c J ≡ Some x) = published-of c J there in
+    not_from_false (is_gone (J ++ es) c)
+    (ap is_left (standing-append c x.0 J es x.1) ∙ spares-fold c x.0 (standing c J) es spares (not-true (is_gone J c) h))
 
 alive-append : (J es : List Entry) (c : ℕ) → Spares es → is_alive J c ≡ true → is_alive (J ++ es) c ≡ true
 alive-append J es c spares h =
     let parts : (list_any (enters c) J ≡ true) × (not (is_gone J c) ≡ true) = and_parts (list_any (enters c) J) (not (is_gone J c)) h in
-    and_from (list_any (enters c) (J ++ es)) (not (is_gone (J ++ es) c)) (list_any-longer (enters c) J es parts.0) (not_gone-append J es c spares parts.1)
+    and_from (list_any (enters c) (J ++ es)) (not (is_gone (J ++ es) c)) (list_any-longer (enters c) J es parts.0) (not_gone-append J es c spares parts.0 parts.1)
 
 after-kept : (J : List Entry) (row : Row) (c : ℕ) → RowHas Spares row → is_alive J c ≡ true → is_stored J c ≡ true → (is_alive (after J row) c ≡ true) × (is_stored (after J row) c ≡ true)
 after-kept J (Ok es) c spares alive stored = (alive-append J es c spares alive, stored-append J es c stored)

@@ -2,7 +2,7 @@
 use Rattle.std.specs.Prelude.{◌≡◌, ℕ, List, [], ◌∷◌, ◌++◌, Bool, true, false, ◌&&◌, not, Option, Some, None, is_some, IsTrue, IsFalse}
 use Rattle.std.specs.List.{list_any}
 use Rattle.fed_journal.specs.declared.event.Event.{Event}
-use Rattle.fed_journal.specs.declared.event.Event.TheVariants.{Take, Settle}
+use Rattle.fed_journal.specs.declared.event.Event.TheVariants.{Deliver, Get, Ack, Reject, Purge, Take, Settle}
 use Rattle.fed_journal.specs.declared.link.AckMode.{AckMode}
 use Rattle.fed_journal.specs.declared.link.AckMode.TheVariants.{OnConfirm}
 use Rattle.fed_journal.specs.declared.link.LinkSpec.{LinkSpec}
@@ -11,13 +11,19 @@ use Rattle.fed_journal.specs.declared.entry.Publication.{Publication}
 use Rattle.fed_journal.specs.declared.entry.Entry.{Entry}
 use Rattle.fed_journal.specs.declared.entry.Entry.TheVariants.{Opened, Took, Sent, Published, Confirmed, Noted, Settled}
 use Rattle.fed_journal.specs.Copies.{enters, is_gone, is_stored, is_secured, find_publication, publication_of}
-use Rattle.fed_journal.specs.Holds.{Session, holder}
+use Rattle.fed_journal.specs.Holders.{Session}
+use Rattle.fed_journal.specs.Holds.{holder}
 use Rattle.fed_journal.specs.Links.{link_of}
 use Rattle.fed_journal.specs.Outgoing.{outgoing}
 use Rattle.fed_world.specs.Run.{Moment, last_journal}
 
--- the events by which a copy may leave its queue: it is handed to a link, or its acknowledgement removes it (AMQP 0-9-1, basic.deliver, basic.ack)
+-- the events by which a copy may leave its queue: it is handed out, its acknowledgement or rejection removes it, or its queue is emptied (AMQP 0-9-1, basic.deliver, basic.get, basic.ack, basic.reject, queue.purge)
 abbrev pub is_removal : Event → Bool
+is_removal (Deliver place client tag) = true
+is_removal (Get place client queue no_ack) = true
+is_removal (Ack place client copy) = true
+is_removal (Reject place client copy) = true
+is_removal (Purge place client queue) = true
 is_removal (Take link) = true
 is_removal (Settle link) = true
 is_removal _ = false

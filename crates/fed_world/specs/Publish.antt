@@ -10,7 +10,7 @@ use Rattle.fed_journal.specs.declared.entry.Entry.TheVariants.{Published}
 use Rattle.fed_journal.specs.Copies.{publication_count, copy_count}
 use Rattle.fed_journal.specs.Names.{is_reserved}
 use Rattle.fed_world.specs.Declare.{stands}
-use Rattle.fed_world.specs.Row.{Row, at_place}
+use Rattle.fed_world.specs.Row.{Row, at_place, channel_of}
 
 -- the default exchange routes to the queue named by the routing key, but for names of links (AMQP 0-9-1, 3.1.3.1)
 abbrev pub routes : List Entry → Place → Message → List (List ℕ)
@@ -33,4 +33,4 @@ abbrev pub message : List ℕ → List ℕ → Bool → Message
 message key body persistent = record { exchange = []; key = key; persistent = persistent; body = body }
 
 unfoldable pub publish_row : List Entry → Place → ℕ → List ℕ → List ℕ → Bool → Row
-publish_row J p client key body persistent = at_place J p (Ok (published J p (Client client 1) (message key body persistent) ∷ []))
+publish_row J p client key body persistent = at_place J p (Ok (published J p (Client (channel_of client)) (message key body persistent) ∷ []))

@@ -1,13 +1,15 @@
 -- What an event appends to the journal, or why it doesn't happen now.
-use Rattle.std.specs.Prelude.{ℕ, List, [], ◌∷◌, if◌then◌else◌, Option, Some, None, Result, Ok, Err, slice_get}
+use Rattle.std.specs.Prelude.{ℕ, List, [], ◌∷◌, if◌then◌else◌, Option, Some, None, is_some, Result, Ok, Err, slice_get}
 use Rattle.fed_journal.specs.declared.place.Place.{Place}
+use Rattle.fed_journal.specs.declared.place.Client.{Client}
 use Rattle.fed_journal.specs.declared.link.LinkSpec.{LinkSpec}
 use Rattle.fed_journal.specs.declared.entry.Entry.{Entry}
-use Rattle.fed_journal.specs.Configuration.{is_place}
+use Rattle.fed_journal.specs.Configuration.{is_place, queue_options}
+use Rattle.fed_journal.specs.Names.{is_reserved}
 use Rattle.fed_journal.specs.Links.{link_of}
 use Rattle.fed_journal.specs.Phases.{phase, is_open}
 use Rattle.fed_world.specs.declared.reason.Reason.{Reason}
-use Rattle.fed_world.specs.declared.reason.Reason.TheVariants.{NoPlace, NoLink, NotOpen, Empty}
+use Rattle.fed_world.specs.declared.reason.Reason.TheVariants.{NoPlace, NoLink, NotOpen, Empty, Refused}
 
 -- the entries, or the reason
 abbrev pub Row : Type 0
@@ -20,6 +22,22 @@ at_place J p row = if is_place J p then row else Err NoPlace
 abbrev pub with_spec : (LinkSpec → Row) → Option LinkSpec → Row
 with_spec row None = Err NoLink
 with_spec row (Some spec) = row spec
+
+-- a client of a schedule is a connection with channel 1 (AMQP 0-9-1, channel.open)
+abbrev pub channel_of : ℕ → Client
+channel_of client = record { connection = client; channel = 1 }
+
+-- ACCESS_REFUSED (403) for a queue that belongs to links, NOT_FOUND (404) for one that isn't there (AMQP 0-9-1, 1.2)
+abbrev pub queue_refusal : List Entry → Place → List ℕ → Option Reason
+queue_refusal J p q = if is_reserved q then Some (Refused 403) else if is_some (queue_options J p q) then None else Some (Refused 404)
+
+abbrev pub unless_refused : Option Reason → Row → Row
+unless_refused None row = row
+unless_refused (Some reason) row = Err reason
+
+-- an event of a client with a queue
+abbrev pub with_queue : List Entry → Place → List ℕ → Row → Row
+with_queue J p q row = unless_refused (queue_refusal J p q) row
 
 -- an event of a link that no configuration asks for
 abbrev pub with_link : List Entry → List ℕ → (LinkSpec → Row) → Row

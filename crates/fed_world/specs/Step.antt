@@ -1,14 +1,20 @@
 -- One event, and what becomes of it.
-use Rattle.std.specs.Prelude.{◌+◌, ◌<◌, List, [], ◌++◌, length, Ok, Err}
+use Rattle.std.specs.Prelude.{◌+◌, ◌<◌, List, [], ◌++◌, Bool, true, false, length, Ok, Err}
 use Rattle.fed_journal.specs.declared.entry.Entry.{Entry}
 use Rattle.fed_journal.specs.declared.event.Event.{Event}
-use Rattle.fed_journal.specs.declared.event.Event.TheVariants.{DeclareQueue, Publish, Flush, SetShovel, Open, Take, Send, Accept, Confirm, Note, Settle, Show}
+use Rattle.fed_journal.specs.declared.event.Event.TheVariants.{DeclareQueue, Publish, Consume, Cancel, Deliver, Get, Ack, Reject, Requeue, Purge, Close, Flush, SetShovel, Open, Take, Send, Accept, Confirm, Note, Settle, Show}
 use Rattle.fed_journal.specs.declared.journal.TheConstants.{MAX_ENTRIES}
 use Rattle.fed_world.specs.declared.reason.Outcome.{Outcome}
 use Rattle.fed_world.specs.declared.reason.Outcome.TheVariants.{Done, NotNow}
 use Rattle.fed_world.specs.Row.{Row}
 use Rattle.fed_world.specs.Declare.{declare_row}
 use Rattle.fed_world.specs.Publish.{publish_row}
+use Rattle.fed_world.specs.Consume.{consume_row, cancel_row}
+use Rattle.fed_world.specs.Deliver.{deliver_row}
+use Rattle.fed_world.specs.Get.{get_row}
+use Rattle.fed_world.specs.Answer.{ack_row, reject_row, requeue_row}
+use Rattle.fed_world.specs.Purge.{purge_row}
+use Rattle.fed_world.specs.Close.{close_row}
 use Rattle.fed_world.specs.Flush.{flush_row}
 use Rattle.fed_world.specs.SetShovel.{set_shovel_row}
 use Rattle.fed_world.specs.Open.{open_row}
@@ -23,6 +29,15 @@ use Rattle.fed_world.specs.Settle.{settle_row}
 abbrev pub next : List Entry → Event → Row
 next J (DeclareQueue place client queue) = declare_row J place queue
 next J (Publish place client key body persistent) = publish_row J place client key body persistent
+next J (Consume place client queue tag no_ack prefetch) = consume_row J place client queue tag no_ack prefetch
+next J (Cancel place client tag) = cancel_row J place client tag
+next J (Deliver place client tag) = deliver_row J place client tag
+next J (Get place client queue no_ack) = get_row J place client queue no_ack
+next J (Ack place client copy) = ack_row J place client copy
+next J (Reject place client copy) = reject_row J place client copy
+next J (Requeue place client copy) = requeue_row J place client copy
+next J (Purge place client queue) = purge_row J place queue
+next J (Close place client) = close_row J place client
 next J (Flush broker) = flush_row J broker
 next J (SetShovel place name shovel) = set_shovel_row J place name shovel
 next J (Open link) = open_row J link
@@ -33,6 +48,19 @@ next J (Confirm link) = confirm_row J link
 next J (Note link) = note_row J link
 next J (Settle link) = settle_row J link
 next J Show = Ok []
+
+-- the events of a client that consumes
+abbrev pub is_consuming : Event → Bool
+is_consuming (Consume place client queue tag no_ack prefetch) = true
+is_consuming (Cancel place client tag) = true
+is_consuming (Deliver place client tag) = true
+is_consuming (Get place client queue no_ack) = true
+is_consuming (Ack place client copy) = true
+is_consuming (Reject place client copy) = true
+is_consuming (Requeue place client copy) = true
+is_consuming (Purge place client queue) = true
+is_consuming (Close place client) = true
+is_consuming _ = false
 
 -- the journal afterwards
 abbrev pub after : List Entry → Row → List Entry

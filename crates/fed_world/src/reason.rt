@@ -20,6 +20,12 @@ pub enum Reason {
     Empty,
     /// No publication that waits is secured.
     Unsecured,
+    /// The client has no consumer of that tag.
+    NoConsumer,
+    /// The consumer holds as many unacknowledged copies as it asked for.
+    Busy,
+    /// The client doesn't hold the copy.
+    NotHeld,
     /// The broker refuses with this reply code (AMQP 0-9-1, 1.2).
     Refused(u16),
 }

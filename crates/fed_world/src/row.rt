@@ -1,9 +1,13 @@
 //! What an event appends to the journal, or why it doesn't happen now.
 ghost use Rattle.std.specs.Prelude.{◌≡◌, [], ◌∷◌, Ok, Err, IfOk};
 ghost use Rattle.fed_world.specs.RowOf.{row_of};
+ghost use Rattle.fed_world.specs.Row.{channel_of, queue_refusal};
 
 use crate::reason::Reason;
 use fed_journal::entry::Entry;
+use fed_journal::place::{Client, Place};
+use fed_journal::text::{Text, is_reserved};
+use journal_scan::configuration::queue_options;
 use std::alloc::{AllocError, Global};
 
 /// The entries that an event appends, or the reason why it doesn't happen.
@@ -23,4 +27,27 @@ pub(crate) fn nothing(alloc: Global) -> Row
     ensures { row_of result ≡ Ok [] }
 {
     Ok(Vec::new(alloc))
+}
+
+/// A client of a schedule: a connection with channel 1.
+pub(crate) fn channel_of(client: u16) -> Client
+    ensures { result ≡ channel_of client }
+{
+    Client {
+        connection: u32::from(client),
+        channel: 1,
+    }
+}
+
+/// Why a client is refused the use of the queue, if it is.
+pub(crate) fn queue_refusal(journal: &[Entry], place: &Place, queue: &Text) -> Option<Reason>
+    ensures { result ≡ queue_refusal journal.now place.now queue.now }
+{
+    if is_reserved(queue) {
+        Some(Reason::Refused(403))
+    } else if queue_options(journal, place, queue).is_some() {
+        None
+    } else {
+        Some(Reason::Refused(404))
+    }
 }

@@ -1,7 +1,8 @@
 //! The state of a run: its journal.
-ghost use Rattle.std.specs.Prelude.{◌≡◌, ◌+◌, ◌<◌, ◌≤◌, ◌++◌, ◌*◌, ◌^◌, ◌≢◌, Ok, Err, IfOk, OnOk, OnErr, length, vec_len};
+ghost use Rattle.std.specs.Prelude.{◌≡◌, ◌+◌, ◌<◌, ◌≤◌, ◌++◌, ◌*◌, ◌^◌, ◌≢◌, Ok, Err, IfOk, OnOk, OnErr, All, IsTrue, length, vec_len};
+ghost use Rattle.fed_journal.specs.Copies.{IsNumbered};
 ghost use Rattle.fed_world.specs.RowOf.{row_of};
-ghost use Rattle.fed_world.specs.Step.{next, after, outcome_of, IsOver};
+ghost use Rattle.fed_world.specs.Step.{next, is_consuming, after, outcome_of, IsOver};
 ghost use Rattle.fed_world.specs.Run.{begin, begun};
 ghost use Rattle.fed_world.specs.Sound.{IsSound};
 ghost use Rattle.fed_world.specs.Fits.{EachFits, RowFits};
@@ -10,12 +11,18 @@ ghost use Rattle.fed_world.specs.Kept.{LeavesStored, RemovesMoved, RemovesHeld};
 use crate::reason::{Outcome, StepFault};
 use crate::row::{Row, nothing};
 use crate::rows::accept::accept_row;
+use crate::rows::answer::{ack_row, reject_row, requeue_row};
+use crate::rows::close::close_row;
 use crate::rows::confirm::confirm_row;
+use crate::rows::consume::{cancel_row, consume_row};
 use crate::rows::declare::declare_row;
+use crate::rows::deliver::deliver_row;
 use crate::rows::flush::flush_row;
+use crate::rows::get::get_row;
 use crate::rows::note::note_row;
 use crate::rows::open::open_row;
 use crate::rows::publish::publish_row;
+use crate::rows::purge::purge_row;
 use crate::rows::send::send_row;
 use crate::rows::set_shovel::set_shovel_row;
 use crate::rows::settle::settle_row;
@@ -45,6 +52,51 @@ impl Model for World {
     ghost view = { λ w. w.journal.entries };
 
     ghost invariant = { λ w. IsSound w.journal.entries × IsReached w.journal.entries };
+}
+
+/// The row of an event of a consuming client.
+fn consuming_row(alloc: Global, entries: &[Entry], event: &Event) -> Result<Row, AllocError>
+    requires { All IsNumbered entries.now }
+    ensures { IsTrue (is_consuming event.now) → IfOk result (λ row. row_of row ≡ next entries.now event.now) }
+{
+    match event {
+        Event::Consume {
+            place,
+            client,
+            queue,
+            tag,
+            no_ack,
+            prefetch,
+        } => consume_row(
+            alloc, entries, place, *client, queue, tag, *no_ack, *prefetch,
+        ),
+        Event::Cancel { place, client, tag } => cancel_row(alloc, entries, place, *client, tag),
+        Event::Deliver { place, client, tag } => deliver_row(alloc, entries, place, *client, tag),
+        Event::Get {
+            place,
+            client,
+            queue,
+            no_ack,
+        } => get_row(alloc, entries, place, *client, queue, *no_ack),
+        Event::Ack {
+            place,
+            client,
+            copy,
+        } => ack_row(alloc, entries, place, *client, *copy),
+        Event::Reject {
+            place,
+            client,
+            copy,
+        } => reject_row(alloc, entries, place, *client, *copy),
+        Event::Requeue {
+            place,
+            client,
+            copy,
+        } => requeue_row(alloc, entries, place, *client, *copy),
+        Event::Purge { place, queue, .. } => purge_row(alloc, entries, place, queue),
+        Event::Close { place, client } => close_row(alloc, entries, place, *client),
+        _ => Ok(nothing(alloc)),
+    }
 }
 
 /// The row of an event: what it appends, or why it doesn't happen now.
@@ -86,6 +138,7 @@ pub fn next(alloc: Global, journal: &Journal, event: &Event) -> Result<Row, Allo
         Event::Note { link } => note_row(alloc, entries, link),
         Event::Settle { link } => settle_row(alloc, entries, link),
         Event::Show => Ok(nothing(alloc)),
+        _ => consuming_row(alloc, entries, event),
     }
 }
 

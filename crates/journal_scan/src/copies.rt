@@ -6,6 +6,7 @@ ghost use Rattle.std.specs.Option.{option_copied};
 ghost use Rattle.fed_journal.specs.Copies.{entered_by, IsNumbered, enters, is_copy_of, must_be_stored, is_stored, is_released, is_gone, find_publication, publication_of, is_secured, is_lasting_at, is_lasting, must_be_stored_at, is_flushed_in, publication_in, is_copy_secured, numbers_from, flushes, is_flushed_from, must_be_stored_from};
 
 use crate::configuration::queue_options;
+use crate::standing::{is_left, standing};
 use fed_journal::entry::{Entry, Publication};
 use fed_journal::place::{Place, QueueOptions};
 use fed_journal::text::Text;
@@ -54,13 +55,10 @@ pub fn enters(entry: &Entry, copy: u64) -> bool
 }
 
 /// Whether the copy has left its queue otherwise than by loss.
-#[tactic(auto, unfolding(fed_journal::specs::Copies::is_released))]
 pub fn is_released(journal: &[Entry], copy: u64) -> bool
     ensures { result ≡ is_released journal.now copy }
 {
-    journal.iter().any(
-        |entry| matches!(entry, Entry::Settled { copy: settled, .. } if *settled == copy),
-    )
+    is_left(standing(journal, copy))
 }
 
 /// Whether the copy has left its queue.
@@ -150,7 +148,7 @@ fn is_lasting_at(journal: &[Entry], place: &Place, queue: Option<&Text>) -> bool
 }
 
 /// The queue of the publication's copy, by the copy's distance from the first.
-fn queue_of(publication: &Publication, copy: u64) -> Option<&Text>
+pub(crate) fn queue_of(publication: &Publication, copy: u64) -> Option<&Text>
     ensures { option_copied result ≡ slice_get publication.now.queues (copy - publication.now.first) }
 {
     publication

@@ -40,7 +40,7 @@ fn copy_published_by(by: &Publisher, link: &Text, session: u32) -> Option<u64>
     ensures { result ≡ copy_published_by link.now session by.now }
 {
     match by {
-        Publisher::Client { .. } => None,
+        Publisher::Client(_) => None,
         Publisher::Link {
             link: found,
             session: number,

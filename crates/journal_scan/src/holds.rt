@@ -1,42 +1,45 @@
 //! Which copies are handed out, and which are ready.
-ghost use Rattle.std.specs.Prelude.{◌≡◌, All, IfOk, fold, is_some, None};
+ghost use Rattle.std.specs.Prelude.{◌≡◌, All, IfOk, is_some};
 ghost use Rattle.fed_journal.specs.Copies.{IsNumbered, entered};
-ghost use Rattle.fed_journal.specs.Holds.{is_held, is_ready, first_ready, ready_count, hold_step};
+ghost use Rattle.fed_journal.specs.Holds.{is_held, is_held_by, is_ready, first_ready, ready_count, holder_in};
+ghost use Rattle.journal_scan.specs.View.{standing_of};
 
-use crate::copies::{entered_by, is_gone};
+use crate::copies::entered_by;
+use crate::standing::{CopyState, is_waiting, standing};
 use fed_journal::entry::Entry;
-use fed_journal::place::Place;
+use fed_journal::place::{Client, Place};
 use fed_journal::text::Text;
 use std::alloc::{AllocError, Global};
 
-/// Whether the copy was handed out and not freed since.
-fn is_handed_out(journal: &[Entry], copy: u64) -> bool
-    ensures { result ≡ is_some (fold (hold_step copy) None journal.now) }
+/// Whether it is a copy that is handed out and unacknowledged.
+fn has_holder(standing: CopyState<'_>) -> bool
+    ensures { result ≡ is_some (holder_in (standing_of standing.entry)) }
 {
-    let mut held = false;
-    for entry in journal {
-        if let Entry::Took { copy: taken, .. } = entry
-            && *taken == copy
-        {
-            held = true;
-        }
-    }
-    held
+    matches!(standing, CopyState::Held(_))
 }
 
 /// Whether the copy is in its queue, and held.
-#[tactic(auto, unfolding(fed_journal::specs::Holds::holder))]
 pub fn is_held(journal: &[Entry], copy: u64) -> bool
     ensures { result ≡ is_held journal.now copy }
 {
-    !is_gone(journal, copy) && is_handed_out(journal, copy)
+    has_holder(standing(journal, copy))
+}
+
+/// Whether the client holds the copy.
+pub fn is_held_by(journal: &[Entry], place: &Place, client: Client, copy: u64) -> bool
+    ensures { result ≡ is_held_by journal.now place.now client copy }
+{
+    match standing(journal, copy) {
+        CopyState::Held(holder) => holder.is_client(place, client),
+        _ => false,
+    }
 }
 
 /// Whether the copy is in its queue, and not held.
 pub fn is_ready(journal: &[Entry], copy: u64) -> bool
     ensures { result ≡ is_ready journal.now copy }
 {
-    !is_gone(journal, copy) && !is_held(journal, copy)
+    is_waiting(standing(journal, copy))
 }
 
 /// The copy that the queue would hand out now.

@@ -2,10 +2,12 @@
 #![tactic(auto)]
 
 pub mod configuration;
+pub mod consumers;
 pub mod copies;
 pub mod flight;
 pub mod holds;
 pub mod links;
 pub mod phases;
+pub mod standing;
 #[cfg(test)]
 mod tests;

@@ -12,7 +12,7 @@ use crate::links::{is_shovel_set, link_of, links_of};
 use crate::phases::{is_open, session};
 use fed_journal::entry::{Entry, Publication, Publisher};
 use fed_journal::message::Message;
-use fed_journal::place::{Place, QueueOptions};
+use fed_journal::place::{Client, Place, QueueOptions};
 use fed_journal::text::{Names, Octets, Text};
 use std::alloc::{AllocError, Global};
 use std::test::Fail;
@@ -60,10 +60,10 @@ fn publication(alloc: Global) -> Result<Publication, AllocError>
     Ok(Publication {
         place: place(alloc)?,
         number: 1,
-        by: Publisher::Client {
+        by: Publisher::Client(Client {
             connection: 1,
             channel: 1,
-        },
+        }),
         message,
         limit: 0,
         first: 1,

@@ -6,7 +6,7 @@ ghost use Rattle.fed_world.specs.RowOf.{row_of};
 ghost use Rattle.fed_world.specs.Publish.{publish_row, routes, published, first_copy};
 
 use crate::reason::Reason;
-use crate::row::{Row, one};
+use crate::row::{Row, channel_of, one};
 use crate::rows::declare::stands;
 use fed_journal::entry::{Entry, Publication, Publisher};
 use fed_journal::journal::Numbers;
@@ -95,9 +95,6 @@ pub fn publish_row(
         persistent,
         body: body.clone()?,
     };
-    let by = Publisher::Client {
-        connection: client,
-        channel: 1,
-    };
+    let by = Publisher::Client(channel_of(client));
     one(alloc, published(alloc, journal, place, by, message, next)?)
 }

@@ -1,0 +1,93 @@
+//! A client begins and ends to consume from a queue.
+ghost use Rattle.std.specs.Prelude.{◌≡◌, IfOk};
+ghost use Rattle.fed_world.specs.RowOf.{row_of};
+ghost use Rattle.fed_world.specs.Consume.{consumes, consume_row, cancel_row};
+
+use crate::reason::Reason;
+use crate::row::{Row, channel_of, nothing, one, queue_refusal};
+use fed_journal::entry::Entry;
+use fed_journal::place::Place;
+use fed_journal::text::Text;
+use journal_scan::configuration::is_place;
+use journal_scan::consumers::{ConsumerName, consumer};
+use std::alloc::{AllocError, Global};
+
+/// Whether the tag is in use by the client.
+fn consumes(journal: &[Entry], place: &Place, client: u16, tag: &Text) -> bool
+    ensures { result ≡ consumes journal.now place.now client tag.now }
+{
+    let name = ConsumerName {
+        place,
+        client: channel_of(client),
+        tag,
+    };
+    consumer(journal, name).is_some()
+}
+
+/// The row of `consume`.
+#[tactic(auto, unfolding(crate::specs::Consume::consume_row))]
+pub fn consume_row(
+    alloc: Global,
+    journal: &[Entry],
+    place: &Place,
+    client: u16,
+    queue: &Text,
+    tag: &Text,
+    no_ack: bool,
+    prefetch: u16,
+) -> Result<Row, AllocError>
+    ensures { IfOk result (λ row. row_of row ≡ consume_row journal.now place.now client queue.now tag.now no_ack prefetch) }
+{
+    if !is_place(journal, place) {
+        return Ok(Err(Reason::NoPlace));
+    }
+    if let Some(reason) = queue_refusal(journal, place, queue) {
+        return Ok(Err(reason));
+    }
+    if consumes(journal, place, client, tag) {
+        return Ok(Err(Reason::Refused(530)));
+    }
+    let place = place.clone()?;
+    let queue = queue.clone()?;
+    let tag = tag.clone()?;
+    one(
+        alloc,
+        Entry::Consumed {
+            place,
+            client: channel_of(client),
+            queue,
+            tag,
+            no_ack,
+            prefetch,
+        },
+    )
+}
+
+/// The row of `cancel`.
+#[tactic(auto, unfolding(crate::specs::Consume::cancel_row))]
+pub fn cancel_row(
+    alloc: Global,
+    journal: &[Entry],
+    place: &Place,
+    client: u16,
+    tag: &Text,
+) -> Result<Row, AllocError>
+    ensures { IfOk result (λ row. row_of row ≡ cancel_row journal.now place.now client tag.now) }
+{
+    if !is_place(journal, place) {
+        return Ok(Err(Reason::NoPlace));
+    }
+    if !consumes(journal, place, client, tag) {
+        return Ok(nothing(alloc));
+    }
+    let place = place.clone()?;
+    let tag = tag.clone()?;
+    one(
+        alloc,
+        Entry::Cancelled {
+            place,
+            client: channel_of(client),
+            tag,
+        },
+    )
+}

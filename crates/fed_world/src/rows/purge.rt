@@ -1,0 +1,33 @@
+//! A client empties a queue of its ready copies.
+ghost use Rattle.std.specs.Prelude.{◌≡◌, IfOk};
+ghost use Rattle.fed_world.specs.RowOf.{row_of};
+ghost use Rattle.fed_world.specs.Purge.{purge_row};
+
+use crate::reason::Reason;
+use crate::row::{Row, one, queue_refusal};
+use fed_journal::entry::Entry;
+use fed_journal::place::Place;
+use fed_journal::text::Text;
+use journal_scan::configuration::is_place;
+use std::alloc::{AllocError, Global};
+
+/// The row of `purge`.
+#[tactic(auto, unfolding(crate::specs::Purge::purge_row))]
+pub fn purge_row(
+    alloc: Global,
+    journal: &[Entry],
+    place: &Place,
+    queue: &Text,
+) -> Result<Row, AllocError>
+    ensures { IfOk result (λ row. row_of row ≡ purge_row journal.now place.now queue.now) }
+{
+    if !is_place(journal, place) {
+        return Ok(Err(Reason::NoPlace));
+    }
+    if let Some(reason) = queue_refusal(journal, place, queue) {
+        return Ok(Err(reason));
+    }
+    let place = place.clone()?;
+    let queue = queue.clone()?;
+    one(alloc, Entry::Purged { place, queue })
+}

@@ -1,0 +1,28 @@
+-- What the scanning program's values stand for.
+use Rattle.std.specs.Prelude.{Option, Some, None}
+use Rattle.fed_journal.specs.Consumers as consumers
+use Rattle.fed_journal.specs.Holders as holders
+use Rattle.fed_journal.specs.Copies as copies
+use Rattle.journal_scan.specs.declared.standing.Holder.{Holder}
+use Rattle.journal_scan.specs.declared.standing.Holder.TheVariants.{Session, Channel}
+use Rattle.journal_scan.specs.declared.standing.CopyState.{CopyState}
+use Rattle.journal_scan.specs.declared.standing.CopyState.TheVariants.{Unknown, Ready, Held, Left}
+use Rattle.journal_scan.specs.declared.consumers.Subscription.{Subscription}
+
+-- with what its references lead to
+abbrev pub holder_of : Holder → holders.Holder
+holder_of (Session link session) = holders.Session link.now session
+holder_of (Channel place client tag) = holders.Channel place.now client tag.now
+
+abbrev pub standing_of : CopyState → copies.Standing
+standing_of Unknown = copies.Unknown
+standing_of Ready = copies.Ready
+standing_of (Held holder) = copies.Held (holder_of holder)
+standing_of Left = copies.Left
+
+abbrev pub consumer_from : Subscription → consumers.Consumer
+consumer_from c = record { queue = c.queue.now; no_ack = c.no_ack; prefetch = c.prefetch }
+
+abbrev pub consumer_of : Option Subscription → Option consumers.Consumer
+consumer_of None = None
+consumer_of (Some c) = Some (consumer_from c)
