@@ -5,7 +5,7 @@ use Rattle.fed_journal.specs.declared.entry.Entry.{Entry}
 use Rattle.fed_journal.specs.declared.event.Event.{Event}
 use Rattle.fed_journal.specs.declared.event.Event.TheVariants.{Show}
 use Rattle.fed_world.specs.declared.reason.Reason.{Reason}
-use Rattle.fed_world.specs.declared.reason.Reason.TheVariants.{NoPlace, NoLink, NoBroker, NameTooLong, Live, NotOpen, Empty, Unsecured, Refused}
+use Rattle.fed_world.specs.declared.reason.Reason.TheVariants.{NoPlace, NoLink, NoBroker, NameTooLong, Live, NotOpen, Empty, Unsecured, NoConsumer, Busy, NotHeld, Refused}
 use Rattle.fed_world.specs.Row.{Row}
 use Rattle.fed_world.specs.Run.{Moment, run}
 use Rattle.fed_status.specs.Listing.{listing}
@@ -20,6 +20,9 @@ reason_word Live = codes "live"
 reason_word NotOpen = codes "not-open"
 reason_word Empty = codes "empty"
 reason_word Unsecured = codes "unsecured"
+reason_word NoConsumer = codes "no-consumer"
+reason_word Busy = codes "busy"
+reason_word NotHeld = codes "not-held"
 reason_word (Refused code) = codes "refused-" ++ decimal code
 
 unfoldable pub not_now_line : ℕ → Reason → List ℕ

@@ -27,6 +27,9 @@ fn push_reason(page: &mut Page, reason: Reason) -> Result<(), AllocError>
         Reason::NotOpen => page.push("not-open"),
         Reason::Empty => page.push("empty"),
         Reason::Unsecured => page.push("unsecured"),
+        Reason::NoConsumer => page.push("no-consumer"),
+        Reason::Busy => page.push("busy"),
+        Reason::NotHeld => page.push("not-held"),
         Reason::Refused(code) => {
             page.push("refused-")?;
             page.push_number(code as u64)
