@@ -1,5 +1,5 @@
 -- Who consumes from a queue.
-use Rattle.std.specs.Prelude.{ℕ, List, [], ◌∷◌, ◌++◌, Bool, false, ◌&&◌, not, fold, if◌then◌else◌, Option, Some, None, count_by, ◌==◌}
+use Rattle.std.specs.Prelude.{ℕ, List, [], ◌∷◌, ◌++◌, Bool, false, ◌&&◌, fold, if◌then◌else◌, Option, Some, None, count_by, ◌==◌}
 use Rattle.std.specs.List.{list_any}
 use Rattle.fed_journal.specs.declared.place.Place.{Place}
 use Rattle.fed_journal.specs.declared.place.Client.{Client}

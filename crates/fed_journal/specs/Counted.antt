@@ -1,5 +1,5 @@
 -- How a journal keeps its counts.
-use Rattle.std.specs.Prelude.{◌≡◌, ℕ, ◌-◌, ◌*◌, ◌^◌, ◌≤◌, length, min, vec_len, vec_capacity}
+use Rattle.std.specs.Prelude.{◌≡◌, ◌-◌, ◌*◌, ◌^◌, ◌≤◌, length, min, vec_len, vec_capacity}
 use Rattle.fed_journal.specs.declared.journal.TheConstants.{MAX_ENTRIES}
 use Rattle.fed_journal.specs.declared.journal.Journal.TheInside.{Inside}
 use Rattle.fed_journal.specs.Copies.{publication_count, copy_count}

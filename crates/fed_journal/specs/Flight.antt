@@ -1,5 +1,5 @@
 -- The copies and publications of a link's last session by their stage, each list in the order of the entries named first.
-use Rattle.std.specs.Prelude.{ℕ, List, [], ◌∷◌, Bool, true, false, ◌&&◌, not, if◌then◌else◌, ◌==◌, Option, Some, None, filter, filter_map}
+use Rattle.std.specs.Prelude.{ℕ, List, Bool, false, ◌&&◌, not, if◌then◌else◌, ◌==◌, Option, Some, None, filter, filter_map}
 use Rattle.std.specs.List.{list_any}
 use Rattle.fed_journal.specs.declared.entry.Publisher.{Publisher}
 use Rattle.fed_journal.specs.declared.entry.Publisher.TheVariants.{Client, Link}

@@ -1,5 +1,5 @@
 -- To whom a queue hands its copies.
-use Rattle.std.specs.Prelude.{ℕ, List, Bool, true, false, ◌&&◌, ◌==◌}
+use Rattle.std.specs.Prelude.{ℕ, List, Bool, false, ◌&&◌, ◌==◌}
 use Rattle.fed_journal.specs.declared.place.Place.{Place}
 use Rattle.fed_journal.specs.declared.place.Client.{Client}
 use Rattle.fed_journal.specs.Names.{same_text, same_place}

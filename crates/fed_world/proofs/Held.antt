@@ -8,8 +8,8 @@ use Rattle.fed_journal.specs.declared.place.Client.{Client}
 use Rattle.fed_journal.specs.declared.entry.Publication.{Publication}
 use Rattle.fed_journal.specs.declared.entry.Entry.{Entry}
 use Rattle.fed_journal.specs.declared.entry.Entry.TheVariants.{Delivered, Acked, Rejected, Requeued, Took, Sent, Published, Confirmed, Noted, Settled}
-use Rattle.fed_journal.specs.Holders.{Holder, Session, Channel}
-use Rattle.fed_journal.specs.Copies.{Standing, Unknown, Ready, Held, Left, enters, is_gone, is_left, publication_of, standing, standing_step, handed}
+use Rattle.fed_journal.specs.Holders.{Session, Channel}
+use Rattle.fed_journal.specs.Copies.{Standing, Ready, Held, Left, enters, is_gone, is_left, publication_of, standing, standing_step, handed}
 use Rattle.fed_journal.specs.Flight.{has, settled_for, is_number}
 use Rattle.fed_journal.specs.Holds.{holder, holder_in, is_ready, is_held_by}
 use Rattle.fed_world.specs.Kept.{StandsAfter, IsMoved, RemovesHeld, HoldsTaken, is_alive}
@@ -101,7 +101,7 @@ settled-stays false l s c e h = inl refl
 held-stays : (K : List Entry) (x : Publication) (c : ℕ) (l : List ℕ) (s : ℕ) (e : Entry) → Taken K → EachCaused [] K → Caused K e → standing c K ≡ Held (Session l s) → Stays x c l s e
 unfolding Stays
 held-stays K x c l s (Took k t d) taken caused cause held =
-    inl (other-stays (d == c) (Held (Session k t)) (Held (Session l s)) (λ h. held-not_ready K l s c d held (eqb-true d c h) cause.1.0))
+    inl (other-stays (d == c) (Held (Session k t)) (Held (Session l s)) (λ h. held-not_ready K l s c d held (eqb-true d c h) cause.1))
 held-stays K x c l s (Delivered p k g q d no_ack) taken caused cause held =
     inl (other-stays (d == c) (handed no_ack (Channel p k g)) (Held (Session l s)) (λ h. held-not_ready K l s c d held (eqb-true d c h) cause))
 held-stays K x c l s (Acked p k d) taken caused cause held =
@@ -138,7 +138,7 @@ taken-old K e x l s c taken caused cause of_copy (inr gone) =
 taken-new : (K : List Entry) (l : List ℕ) (s c : ℕ) → Caused K (Took l s c) → standing c (K ++ Took l s c ∷ []) ≡ Held (Session l s)
 taken-new K l s c cause =
     let x : (x : Publication) × (publication_of c K ≡ Some x) = published-of c K cause.0 in
-    standing-push c x.0 K (Took l s c) x.1 ∙ ap (λ t. standing_step c x.0 t (Took l s c)) (waiting-is (standing c K) cause.1.0)
+    standing-push c x.0 K (Took l s c) x.1 ∙ ap (λ t. standing_step c x.0 t (Took l s c)) (waiting-is (standing c K) cause.1)
     ∙ ap (λ b. cond b (Held (Session l s)) Ready) (eq-eqb c c refl)
 
 taken-by : (K : List Entry) (e : Entry) → Taken K → EachCaused [] K → Caused K e → (l : List ℕ) (s c : ℕ) → IsIn (Took l s c) K ⊎ (e ≡ Took l s c) → IsTakenBy (K ++ e ∷ []) l s c

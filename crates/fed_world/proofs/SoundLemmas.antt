@@ -6,7 +6,7 @@ use Rattle.std.proofs.lemmas.List.Elements.{All-push}
 use Rattle.std.proofs.lemmas.List.{append-nil}
 use Rattle.fed_journal.specs.declared.journal.TheConstants.{MAX_ENTRIES}
 use Rattle.fed_journal.specs.declared.entry.Entry.{Entry}
-use Rattle.fed_journal.specs.declared.entry.Entry.TheVariants.{Begun, MadeQueue, Published, Flushed, ShovelSet, Took, Sent, Confirmed, Noted, Settled, Opened}
+use Rattle.fed_journal.specs.declared.entry.Entry.TheVariants.{Published, Opened}
 use Rattle.fed_journal.specs.Names.{same_text}
 use Rattle.fed_journal.specs.Copies.{IsNumbered, copy_count}
 use Rattle.fed_journal.specs.Phases.{session, session_step}
@@ -21,29 +21,11 @@ session-push J e l = fold-append (session_step l) 0 J (e ∷ [])
 
 session_step-fits : (J : List Entry) (e : Entry) (l : List ℕ) → session J l ≤ length J → FitsEntry J e → session_step l (session J l) e ≤ length J + 1
 session_step-fits J (Opened k s r) l h fits = elim (same_text k l) as (λ v. (if v then s else session J l) ≤ length J + 1) [ true ↦ fits | false ↦ omega arith ]
-session_step-fits J (Begun b c k) l h fits = omega arith
-session_step-fits J (MadeQueue p q o) l h fits = omega arith
-session_step-fits J (Published x) l h fits = omega arith
-session_step-fits J (Flushed b) l h fits = omega arith
-session_step-fits J (Took k s c) l h fits = omega arith
-session_step-fits J (Sent k s c) l h fits = omega arith
-session_step-fits J (Confirmed k s p) l h fits = omega arith
-session_step-fits J (Noted k s c) l h fits = omega arith
-session_step-fits J (Settled k s c) l h fits = omega arith
-session_step-fits J (ShovelSet p n v) l h fits = omega arith
+session_step-fits J _ l h fits = omega arith
 
 IsNumbered-fits : (J : List Entry) (e : Entry) → FitsEntry J e → IsNumbered e
 IsNumbered-fits J (Published x) fits = fits
-IsNumbered-fits J (Opened k s r) fits = tt
-IsNumbered-fits J (Begun b c k) fits = tt
-IsNumbered-fits J (MadeQueue p q o) fits = tt
-IsNumbered-fits J (Flushed b) fits = tt
-IsNumbered-fits J (Took k s c) fits = tt
-IsNumbered-fits J (Sent k s c) fits = tt
-IsNumbered-fits J (Confirmed k s p) fits = tt
-IsNumbered-fits J (Noted k s c) fits = tt
-IsNumbered-fits J (Settled k s c) fits = tt
-IsNumbered-fits J (ShovelSet p n v) fits = tt
+IsNumbered-fits J _ fits = tt
 
 IsSound-push : (J : List Entry) (e : Entry) → IsSound J → FitsEntry J e → length J + 1 ≤ MAX_ENTRIES → IsSound (J ++ e ∷ [])
 IsSound-push J e sound fits within = record {

@@ -1,8 +1,8 @@
 -- How entries change what has become of a copy.
-use Rattle.std.proofs.Common.{◌≡◌, ℕ, List, [], ◌∷◌, ◌++◌, Bool, true, false, Option, Some, None, refl, sym, subst, ap, ◌∙◌}
+use Rattle.std.proofs.Common.{◌≡◌, ℕ, List, [], ◌∷◌, ◌++◌, Bool, true, false, Some, refl, ap, ◌∙◌}
 use Rattle.std.specs.Prelude.{◌||◌, cond, fold}
 use Rattle.std.specs.List.{list_any}
-use Rattle.std.proofs.lemmas.Bool.{true≢false, false≢true}
+use Rattle.std.proofs.lemmas.Bool.{false≢true}
 use Rattle.std.proofs.lemmas.Option.{none-some, same_Some}
 use Rattle.std.proofs.lemmas.List.Sums.{fold-append}
 use Rattle.fed_journal.specs.declared.place.Place.{Place}
@@ -10,7 +10,7 @@ use Rattle.fed_journal.specs.declared.place.Client.{Client}
 use Rattle.fed_journal.specs.declared.entry.Publication.{Publication}
 use Rattle.fed_journal.specs.declared.entry.Entry.{Entry}
 use Rattle.fed_journal.specs.declared.entry.Entry.TheVariants.{Published}
-use Rattle.fed_journal.specs.Holders.{Holder, Session, Channel}
+use Rattle.fed_journal.specs.Holders.{Session, Channel}
 use Rattle.fed_journal.specs.Copies.{Standing, Unknown, Ready, Held, Left, is_copy_of, enters, publication_of, is_waiting, standing, standing_step}
 use Rattle.fed_journal.specs.Holds.{holder_in, is_client_of}
 

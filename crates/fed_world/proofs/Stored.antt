@@ -1,6 +1,6 @@
 -- A copy that is alive and stored stays so while nothing removes it.
 use Rattle.std.proofs.Common.{◌≡◌, ℕ, ◌+◌, ◌<◌, List, [], ◌∷◌, ◌++◌, length, zero, suc, Bool, true, false, Option, Some, None, arith, refl, sym, subst, ap, take, drop, ◌∙◌}
-use Rattle.std.specs.Prelude.{Ok, Err, not, ◌||◌, cond, fold, nat_lt, position, slice_get}
+use Rattle.std.specs.Prelude.{Ok, Err, not, cond, fold, nat_lt, position, slice_get}
 use Rattle.std.specs.List.{list_any, position_or_len}
 use Rattle.std.proofs.lemmas.Bool.{false≢true, and_parts, and_from, or_left, ltb-true, lt-ltb, ne_eqb, not-true, not_from_false}
 use Rattle.std.proofs.lemmas.Option.{cond_some}

@@ -1,5 +1,5 @@
-use Rattle.std.proofs.Common.{◌≡◌, drop, All}
-use Rattle.fed_journal.specs.Copies.{find_publication, IsNumbered}
+use Rattle.std.proofs.Common.{◌≡◌, drop}
+use Rattle.fed_journal.specs.Copies.{find_publication}
 use Rattle.journal_scan.proofs.copies.find_publication.Given as goal
 
 -- what is left gives the answer
