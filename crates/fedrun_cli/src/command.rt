@@ -15,7 +15,7 @@ use fed_world::kept::kept;
 use std::alloc::Global;
 
 /// The most octets of a schedule's file.
-pub const MAX_FILE: usize = 512;
+pub const MAX_FILE: usize = 16_384;
 
 /// The most places of a run.
 pub const MAX_PLACES: usize = 64;
