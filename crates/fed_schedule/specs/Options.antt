@@ -1,5 +1,5 @@
 -- The options of a line, the words after those that its form needs.
-use Rattle.std.specs.Prelude.{ℕ, List, Bool, ◌&&◌, not, if◌then◌else◌, ◌==◌, nat_eq, length, drop, Option, Some, None, is_some, codes}
+use Rattle.std.specs.Prelude.{ℕ, List, Bool, ◌&&◌, not, if◌then◌else◌, ◌==◌, nat_eq, length, drop, Option, None, is_some, codes}
 use Rattle.std.specs.Option.{unwrap_or}
 use Rattle.std.specs.List.{starts_with}
 use Rattle.fed_journal.specs.Names.{same_text}
