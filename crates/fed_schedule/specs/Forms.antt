@@ -6,15 +6,32 @@ use Rattle.fed_journal.specs.declared.event.Event.TheVariants.{SetShovel}
 use Rattle.fed_journal.specs.declared.place.Place.{Place}
 use Rattle.fed_journal.specs.Names.{same_text, same_place}
 use Rattle.fed_schedule.specs.declared.keyword.Keyword.{Keyword}
-use Rattle.fed_schedule.specs.declared.keyword.Keyword.TheVariants.{Broker, Declare, Publish, Flush, Shovel, Link, Show}
-use Rattle.fed_schedule.specs.declared.keyword.Action.{Action}
-use Rattle.fed_schedule.specs.declared.keyword.Action.TheVariants.{Open, Take, Send, Accept, Confirm, Note, Settle}
+use Rattle.fed_schedule.specs.declared.keyword.Keyword.TheVariants.{Broker, Declare, Publish, Flush, Shovel, Client, Link, Show}
+use Rattle.fed_schedule.specs.declared.keyword.Settlement.TheVariants as settles
+use Rattle.fed_schedule.specs.declared.keyword.ClientAction.{ClientAction}
+use Rattle.fed_schedule.specs.declared.keyword.ClientAction.TheVariants as client
+use Rattle.fed_schedule.specs.declared.keyword.LinkAction.{LinkAction}
+use Rattle.fed_schedule.specs.declared.keyword.LinkAction.TheVariants.{Open, Take, Send, Accept, Confirm, Note, Settle}
 use Rattle.fed_schedule.specs.Words.{word_at, is_text, text_of}
 use Rattle.fed_schedule.specs.Fields.{place_of}
+use Rattle.fed_schedule.specs.Options.{are_queue_options, is_alone}
+
+-- what a client does with copies (AMQP 0-9-1, the methods of class basic; queue.purge; connection.close)
+unfoldable pub client_action_of : List ℕ → Option ClientAction
+client_action_of w =
+    if same_text w (codes "consume") then Some client.Consume else
+    if same_text w (codes "cancel") then Some client.Cancel else
+    if same_text w (codes "deliver") then Some client.Deliver else
+    if same_text w (codes "get") then Some client.Get else
+    if same_text w (codes "ack") then Some (client.Settle settles.Ack) else
+    if same_text w (codes "reject") then Some (client.Settle settles.Reject) else
+    if same_text w (codes "requeue") then Some (client.Settle settles.Requeue) else
+    if same_text w (codes "purge") then Some client.Purge else
+    if same_text w (codes "close") then Some client.Close else None
 
 -- what a link does
-unfoldable pub action_of : List ℕ → Option Action
-action_of w =
+unfoldable pub link_action_of : List ℕ → Option LinkAction
+link_action_of w =
     if same_text w (codes "open") then Some Open else
     if same_text w (codes "take") then Some Take else
     if same_text w (codes "send") then Some Send else
@@ -23,9 +40,14 @@ action_of w =
     if same_text w (codes "note") then Some Note else
     if same_text w (codes "settle") then Some Settle else None
 
-abbrev pub link_keyword : Option Action → Option Keyword
-link_keyword None = None
-link_keyword (Some action) = Some (Link action)
+abbrev pub keyword_of_action : Option ClientAction → Option LinkAction → Option Keyword
+keyword_of_action (Some action) _ = Some (Client action)
+keyword_of_action None (Some action) = Some (Link action)
+keyword_of_action None None = None
+
+-- the form of what a client or a link does
+unfoldable pub action_keyword_of : List ℕ → Option Keyword
+action_keyword_of w = keyword_of_action (client_action_of w) (link_action_of w)
 
 -- the form that the first word names
 unfoldable pub keyword_of : List ℕ → Option Keyword
@@ -35,25 +57,13 @@ keyword_of w =
     if same_text w (codes "publish") then Some Publish else
     if same_text w (codes "flush") then Some Flush else
     if same_text w (codes "shovel") then Some Shovel else
-    if same_text w (codes "show") then Some Show else link_keyword (action_of w)
+    if same_text w (codes "show") then Some Show else action_keyword_of w
 
 -- all words but the body of a message are texts
 unfoldable pub are_texts : List (List ℕ) → Bool
 are_texts ws =
     if same_text (word_at ws 0) (codes "publish") then list_all is_text (take 5 ws) && list_all is_text (drop 6 ws)
     else list_all is_text ws
-
--- the words after an option, if it stands first
-unfoldable pub without : List ℕ → List (List ℕ) → List (List ℕ)
-without option ws = if same_text (word_at ws 0) option then drop 1 ws else ws
-
--- nothing, or some of a queue's options in their order (AMQP 0-9-1, queue.declare)
-unfoldable pub are_queue_options : List (List ℕ) → Bool
-are_queue_options ws = length (without (codes "auto-delete") (without (codes "exclusive") (without (codes "durable") ws))) == 0
-
--- the one option
-abbrev pub is_alone : List ℕ → List (List ℕ) → Bool
-is_alone option ws = length ws == 1 && same_text (word_at ws 0) option
 
 -- a declaration of an exchange, or of a queue that isn't just durable
 unfoldable pub is_unbuilt_declare : List (List ℕ) → Bool
@@ -93,6 +103,12 @@ is_unbuilt es Publish ws = is_unbuilt_publish ws
 is_unbuilt es Shovel ws = is_unbuilt_shovel es ws
 is_unbuilt es _ ws = false
 
+-- the words of what a client does, without options
+abbrev pub client_word_count : ClientAction → ℕ
+client_word_count client.Consume = 5
+client_word_count client.Close = 3
+client_word_count _ = 4
+
 -- the words of a form, without its options
 abbrev pub word_count : Keyword → ℕ
 word_count Broker = 2
@@ -101,11 +117,14 @@ word_count Publish = 6
 word_count Flush = 2
 word_count Shovel = 8
 word_count Show = 1
+word_count (Client action) = client_word_count action
 word_count (Link _) = 2
 
 abbrev pub takes_options : Keyword → Bool
 takes_options Declare = true
 takes_options Publish = true
+takes_options (Client client.Consume) = true
+takes_options (Client client.Get) = true
 takes_options _ = false
 
 abbrev pub is_empty_word : List ℕ → Bool

@@ -2,6 +2,7 @@ pub mod Fields
 pub mod Forms
 pub mod Links
 pub mod Numbers
+pub mod Options
 pub mod Reasons
 pub mod Schedule
 pub mod Statements

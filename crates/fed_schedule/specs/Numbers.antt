@@ -1,4 +1,4 @@
--- Client numbers: the numbers of connections (AMQP 0-9-1, 4.9: the channel is 1).
+-- Decimal numbers: of clients (AMQP 0-9-1, 4.9: a client is a connection, its channel is 1), of prefetch counts and of copies.
 use Rattle.std.specs.Prelude.{ℕ, ◌+◌, ◌*◌, ◌-◌, List, Bool, ◌&&◌, not, if◌then◌else◌, ◌==◌, nat_le, nat_lt, fold, length, min, slice_index, Option, Some, None}
 use Rattle.std.specs.List.{list_all}
 
@@ -20,6 +20,19 @@ with_digit most n b = min (most + 1) (10 * n + (b - 48))
 unfoldable pub number_up_to : ℕ → List ℕ → ℕ
 number_up_to most digits = fold (with_digit most) 0 digits
 
+-- the number that the word writes, if it is neither below the least nor above the most
+unfoldable pub number_within : ℕ → ℕ → List ℕ → Option ℕ
+number_within least most w =
+    if is_decimal w && nat_le least (number_up_to most w) && nat_le (number_up_to most w) most then Some (number_up_to most w) else None
+
 -- a client's number is 0 to 65,535
 unfoldable pub client_of : List ℕ → Option ℕ
-client_of w = if is_decimal w && nat_le (number_up_to 65535 w) 65535 then Some (number_up_to 65535 w) else None
+client_of w = number_within 0 65535 w
+
+-- so is a prefetch count (AMQP 0-9-1, basic.qos: `prefetch-count` is a short integer)
+unfoldable pub prefetch_count_of : List ℕ → Option ℕ
+prefetch_count_of w = number_within 0 65535 w
+
+-- copies are numbered from 1 on, in 64 bits
+unfoldable pub copy_of : List ℕ → Option ℕ
+copy_of w = number_within 1 18446744073709551615 w

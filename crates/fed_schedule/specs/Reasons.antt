@@ -3,22 +3,37 @@ use Rattle.std.specs.Prelude.{ℕ, List, Bool, false, ◌&&◌, ◌||◌, not, �
 use Rattle.std.specs.List.{list_any}
 use Rattle.fed_journal.specs.Names.{same_text, is_reserved}
 use Rattle.fed_schedule.specs.declared.keyword.Keyword.{Keyword}
-use Rattle.fed_schedule.specs.declared.keyword.Keyword.TheVariants.{Broker, Declare, Publish, Flush, Shovel, Link, Show}
+use Rattle.fed_schedule.specs.declared.keyword.Keyword.TheVariants.{Broker, Declare, Publish, Flush, Shovel, Client, Link, Show}
+use Rattle.fed_schedule.specs.declared.keyword.ClientAction.{ClientAction}
+use Rattle.fed_schedule.specs.declared.keyword.ClientAction.TheVariants as client
 use Rattle.fed_schedule.specs.Words.{word_at, text_of, octets_of}
-use Rattle.fed_schedule.specs.Numbers.{client_of}
+use Rattle.fed_schedule.specs.Numbers.{client_of, copy_of}
 use Rattle.fed_schedule.specs.Fields.{is_run_name, is_long, place_of, is_bad_place}
 use Rattle.fed_schedule.specs.Links.{is_bad_link}
-use Rattle.fed_schedule.specs.Forms.{is_alone}
+use Rattle.fed_schedule.specs.Options.{is_alone, is_bad_prefetch, are_consumer_options}
 
 -- a broker's line stands after another line
 abbrev pub is_late : Bool → Keyword → Bool
 is_late begun Broker = begun
 is_late begun _ = false
 
--- the client's number is none
+abbrev pub is_bad_client : List ℕ → Bool
+is_bad_client w = not (is_some (client_of w))
+
+abbrev pub is_bad_copy : List ℕ → Bool
+is_bad_copy w = not (is_some (copy_of w))
+
+-- a prefetch count, or the number of a copy, is none
+unfoldable pub has_bad_client_number : ClientAction → List (List ℕ) → Bool
+has_bad_client_number client.Consume ws = list_any is_bad_prefetch (drop 5 ws)
+has_bad_client_number (client.Settle _) ws = is_bad_copy (word_at ws 3)
+has_bad_client_number _ ws = false
+
+-- a number of the line is none
 unfoldable pub has_bad_number : Keyword → List (List ℕ) → Bool
-has_bad_number Declare ws = not (is_some (client_of (word_at ws 2)))
-has_bad_number Publish ws = not (is_some (client_of (word_at ws 2)))
+has_bad_number Declare ws = is_bad_client (word_at ws 2)
+has_bad_number Publish ws = is_bad_client (word_at ws 2)
+has_bad_number (Client action) ws = is_bad_client (word_at ws 2) || has_bad_client_number action ws
 has_bad_number _ ws = false
 
 abbrev pub is_bad_run_name : List ℕ → Bool
@@ -41,6 +56,17 @@ has_bad_shovel_names ws =
     has_bad_place_and_name (word_at ws 1) (word_at ws 2)
     || has_bad_end (word_at ws 3) (word_at ws 4) || has_bad_end (word_at ws 5) (word_at ws 6)
 
+-- a consumer's place, queue and tag (AMQP 0-9-1, consumer-tag: a short string)
+abbrev pub has_bad_consumer_names : List (List ℕ) → Bool
+has_bad_consumer_names ws = has_bad_place_and_name (word_at ws 1) (word_at ws 3) || is_bad_name (word_at ws 4)
+
+-- a client's place, and the names that stand after its number
+unfoldable pub has_bad_client_names : ClientAction → List (List ℕ) → Bool
+has_bad_client_names client.Consume ws = has_bad_consumer_names ws
+has_bad_client_names (client.Settle _) ws = is_bad_place (place_of (word_at ws 1))
+has_bad_client_names client.Close ws = is_bad_place (place_of (word_at ws 1))
+has_bad_client_names _ ws = has_bad_place_and_name (word_at ws 1) (word_at ws 3)
+
 -- a name is too long, or no run name where it has to be one
 unfoldable pub has_bad_names : Keyword → List (List ℕ) → Bool
 has_bad_names Broker ws = is_bad_run_name (word_at ws 1)
@@ -49,6 +75,7 @@ has_bad_names Publish ws = has_bad_place_and_name (word_at ws 1) (word_at ws 4)
 has_bad_names Flush ws = is_bad_run_name (word_at ws 1)
 has_bad_names Shovel ws = has_bad_shovel_names ws
 has_bad_names Show ws = false
+has_bad_names (Client action) ws = has_bad_client_names action ws
 has_bad_names (Link _) ws = is_bad_link (word_at ws 1)
 
 -- the broker's name is taken
@@ -56,11 +83,18 @@ unfoldable pub is_twice : List (List ℕ) → Keyword → List (List ℕ) → Bo
 is_twice brokers Broker ws = list_any (same_text (text_of (word_at ws 1))) brokers
 is_twice brokers _ ws = false
 
+-- the words that are left are not the options of what a client does
+unfoldable pub has_bad_client_option : ClientAction → List (List ℕ) → Bool
+has_bad_client_option client.Consume ws = not (are_consumer_options (drop 5 ws))
+has_bad_client_option client.Get ws = not (length ws == 4) && not (is_alone (codes "no-ack") (drop 4 ws))
+has_bad_client_option _ ws = false
+
 -- a fixed word is none of its choices, or words are left over
 unfoldable pub has_bad_option : Keyword → List (List ℕ) → Bool
 has_bad_option Declare ws = not (same_text (word_at ws 3) (codes "queue")) || not (is_alone (codes "durable") (drop 5 ws))
 has_bad_option Publish ws = not (length ws == 6) && not (is_alone (codes "persistent") (drop 6 ws))
 has_bad_option Shovel ws = not (same_text (word_at ws 7) (codes "on-confirm"))
+has_bad_option (Client action) ws = has_bad_client_option action ws
 has_bad_option _ ws = false
 
 -- a shovel's queue has to have a name, and none that belongs to links (RabbitMQ, dynamic shovels: `src-queue`, `dest-queue`)

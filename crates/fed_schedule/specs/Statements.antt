@@ -1,22 +1,29 @@
 -- What a line states, where its words are values of its form.
-use Rattle.std.specs.Prelude.{ℕ, List, ◌==◌, length, not}
+use Rattle.std.specs.Prelude.{ℕ, List, ◌==◌, length, drop, not, codes}
+use Rattle.fed_journal.specs.Names.{same_text}
 use Rattle.std.specs.Option.{unwrap_or}
 use Rattle.fed_journal.specs.declared.event.Event.{Event}
 use Rattle.fed_journal.specs.declared.event.Event.TheVariants as event
 use Rattle.fed_journal.specs.declared.event.Shovel.{Shovel}
+use Rattle.fed_journal.specs.declared.place.Place.{Place}
 use Rattle.fed_journal.specs.declared.link.AckMode.TheVariants.{OnConfirm}
 use Rattle.fed_schedule.specs.declared.keyword.Keyword.{Keyword}
 use Rattle.fed_schedule.specs.declared.keyword.Keyword.TheVariants as form
-use Rattle.fed_schedule.specs.declared.keyword.Action.{Action}
-use Rattle.fed_schedule.specs.declared.keyword.Action.TheVariants.{Open, Take, Send, Accept, Confirm, Note, Settle}
+use Rattle.fed_schedule.specs.declared.keyword.Settlement.{Settlement}
+use Rattle.fed_schedule.specs.declared.keyword.Settlement.TheVariants.{Ack, Reject, Requeue}
+use Rattle.fed_schedule.specs.declared.keyword.ClientAction.{ClientAction}
+use Rattle.fed_schedule.specs.declared.keyword.ClientAction.TheVariants as client
+use Rattle.fed_schedule.specs.declared.keyword.LinkAction.{LinkAction}
+use Rattle.fed_schedule.specs.declared.keyword.LinkAction.TheVariants.{Open, Take, Send, Accept, Confirm, Note, Settle}
 use Rattle.fed_schedule.specs.declared.statement.Statement.{Statement}
 use Rattle.fed_schedule.specs.declared.statement.Statement.TheVariants as states
 use Rattle.fed_schedule.specs.Words.{word_at, text_of, octets_of}
-use Rattle.fed_schedule.specs.Numbers.{client_of}
+use Rattle.fed_schedule.specs.Numbers.{client_of, copy_of}
 use Rattle.fed_schedule.specs.Fields.{place_of}
 use Rattle.fed_schedule.specs.Links.{link_name}
+use Rattle.fed_schedule.specs.Options.{consumer_prefetch}
 
-abbrev pub link_event : Action → List ℕ → Event
+abbrev pub link_event : LinkAction → List ℕ → Event
 link_event Open l = event.Open l
 link_event Take l = event.Take l
 link_event Send l = event.Send l
@@ -25,14 +32,18 @@ link_event Confirm l = event.Confirm l
 link_event Note l = event.Note l
 link_event Settle l = event.Settle l
 
+-- the client of a line
+abbrev pub client_at : List (List ℕ) → ℕ
+client_at ws = unwrap_or (client_of (word_at ws 2)) 0
+
 -- `declare P C queue NAME durable`
 unfoldable pub declare_event : List (List ℕ) → Event
-declare_event ws = event.DeclareQueue (place_of (word_at ws 1)) (unwrap_or (client_of (word_at ws 2)) 0) (text_of (word_at ws 4))
+declare_event ws = event.DeclareQueue (place_of (word_at ws 1)) (client_at ws) (text_of (word_at ws 4))
 
 -- `publish P C EXCHANGE KEY BODY [persistent]`
 unfoldable pub publish_event : List (List ℕ) → Event
 publish_event ws =
-    event.Publish (place_of (word_at ws 1)) (unwrap_or (client_of (word_at ws 2)) 0)
+    event.Publish (place_of (word_at ws 1)) (client_at ws)
     (text_of (word_at ws 4)) (octets_of (word_at ws 5)) (not (length ws == 6))
 
 -- `B1 QUEUE1 B2 QUEUE2` of a shovel's line
@@ -49,6 +60,50 @@ shovel_of ws = record {
 unfoldable pub shovel_event : List (List ℕ) → Event
 shovel_event ws = event.SetShovel (place_of (word_at ws 1)) (text_of (word_at ws 2)) (shovel_of ws)
 
+-- `consume P C QUEUE TAG [no-ack] [prefetch=N]`
+unfoldable pub consume_event : List (List ℕ) → Event
+consume_event ws =
+    event.Consume (place_of (word_at ws 1)) (client_at ws) (text_of (word_at ws 3)) (text_of (word_at ws 4))
+    (same_text (word_at ws 5) (codes "no-ack")) (consumer_prefetch (drop 5 ws))
+
+-- `cancel P C TAG`
+unfoldable pub cancel_event : List (List ℕ) → Event
+cancel_event ws = event.Cancel (place_of (word_at ws 1)) (client_at ws) (text_of (word_at ws 3))
+
+-- `deliver P C TAG`
+unfoldable pub deliver_event : List (List ℕ) → Event
+deliver_event ws = event.Deliver (place_of (word_at ws 1)) (client_at ws) (text_of (word_at ws 3))
+
+-- `get P C QUEUE [no-ack]`
+unfoldable pub get_event : List (List ℕ) → Event
+get_event ws = event.Get (place_of (word_at ws 1)) (client_at ws) (text_of (word_at ws 3)) (not (length ws == 4))
+
+-- `ack P C COPY`, `reject P C COPY`, `requeue P C COPY`
+abbrev pub settlement_event : Settlement → Place → ℕ → ℕ → Event
+settlement_event Ack place number copy = event.Ack place number copy
+settlement_event Reject place number copy = event.Reject place number copy
+settlement_event Requeue place number copy = event.Requeue place number copy
+
+unfoldable pub settle_event : Settlement → List (List ℕ) → Event
+settle_event settlement ws = settlement_event settlement (place_of (word_at ws 1)) (client_at ws) (unwrap_or (copy_of (word_at ws 3)) 0)
+
+-- `purge P C QUEUE`
+unfoldable pub purge_event : List (List ℕ) → Event
+purge_event ws = event.Purge (place_of (word_at ws 1)) (client_at ws) (text_of (word_at ws 3))
+
+-- `close P C`
+unfoldable pub close_event : List (List ℕ) → Event
+close_event ws = event.Close (place_of (word_at ws 1)) (client_at ws)
+
+unfoldable pub client_event : ClientAction → List (List ℕ) → Event
+client_event client.Consume ws = consume_event ws
+client_event client.Cancel ws = cancel_event ws
+client_event client.Deliver ws = deliver_event ws
+client_event client.Get ws = get_event ws
+client_event (client.Settle settlement) ws = settle_event settlement ws
+client_event client.Purge ws = purge_event ws
+client_event client.Close ws = close_event ws
+
 unfoldable pub statement_of : Keyword → List (List ℕ) → Statement
 statement_of form.Broker ws = states.Broker (text_of (word_at ws 1))
 statement_of form.Declare ws = states.Event (declare_event ws)
@@ -56,4 +111,5 @@ statement_of form.Publish ws = states.Event (publish_event ws)
 statement_of form.Flush ws = states.Event (event.Flush (text_of (word_at ws 1)))
 statement_of form.Shovel ws = states.Event (shovel_event ws)
 statement_of form.Show ws = states.Event event.Show
+statement_of (form.Client action) ws = states.Event (client_event action ws)
 statement_of (form.Link action) ws = states.Event (link_event action (link_name (word_at ws 1)))

@@ -2,43 +2,91 @@
 ghost use Rattle.std.specs.Prelude.{◌≡◌, IfOk};
 ghost use Rattle.std.specs.List.{list_any, list_all, starts_with};
 ghost use Rattle.fed_schedule.specs.Words.{is_text, word_at};
-ghost use Rattle.fed_schedule.specs.Forms.{action_of, keyword_of, are_texts, without, are_queue_options, is_alone, is_unbuilt_declare, names_exchange, is_header, is_unbuilt_publish, line_sets_shovel, is_unbuilt_shovel, is_unbuilt, word_count, takes_options, is_empty_word, is_miscounted};
+ghost use Rattle.fed_schedule.specs.Forms.{client_action_of, link_action_of, action_keyword_of, keyword_of, are_texts, is_unbuilt_declare, names_exchange, is_header, is_unbuilt_publish, line_sets_shovel, is_unbuilt_shovel, is_unbuilt, client_word_count, word_count, takes_options, is_empty_word, is_miscounted};
 
 use crate::fields::place_of;
-use crate::keyword::{Action, Keyword};
+use crate::keyword::{ClientAction, Keyword, LinkAction, Settlement};
+use crate::options::{are_queue_options, is_alone};
 use crate::words::{is_text, is_word, text_of, word_at, words_before, words_from};
 use fed_journal::event::Event;
 use fed_journal::place::Place;
 use fed_journal::text::{Octets, Text};
 use std::alloc::{AllocError, Global};
 
-/// What a link does by that word.
-#[tactic(auto, unfolding(crate::specs::Forms::action_of))]
-fn action_of(word: &[u8]) -> Option<Action>
-    ensures { result ≡ action_of word.now }
+/// What a client does by that word.
+#[tactic(auto, unfolding(crate::specs::Forms::client_action_of))]
+fn client_action_of(word: &[u8]) -> Option<ClientAction>
+    ensures { result ≡ client_action_of word.now }
 {
-    if is_word(word, "open") {
-        return Some(Action::Open);
+    if is_word(word, "consume") {
+        return Some(ClientAction::Consume);
     }
-    if is_word(word, "take") {
-        return Some(Action::Take);
+    if is_word(word, "cancel") {
+        return Some(ClientAction::Cancel);
     }
-    if is_word(word, "send") {
-        return Some(Action::Send);
+    if is_word(word, "deliver") {
+        return Some(ClientAction::Deliver);
     }
-    if is_word(word, "accept") {
-        return Some(Action::Accept);
+    if is_word(word, "get") {
+        return Some(ClientAction::Get);
     }
-    if is_word(word, "confirm") {
-        return Some(Action::Confirm);
+    if is_word(word, "ack") {
+        return Some(ClientAction::Settle(Settlement::Ack));
     }
-    if is_word(word, "note") {
-        return Some(Action::Note);
+    if is_word(word, "reject") {
+        return Some(ClientAction::Settle(Settlement::Reject));
     }
-    if is_word(word, "settle") {
-        return Some(Action::Settle);
+    if is_word(word, "requeue") {
+        return Some(ClientAction::Settle(Settlement::Requeue));
+    }
+    if is_word(word, "purge") {
+        return Some(ClientAction::Purge);
+    }
+    if is_word(word, "close") {
+        return Some(ClientAction::Close);
     }
     None
+}
+
+/// What a link does by that word.
+#[tactic(auto, unfolding(crate::specs::Forms::link_action_of))]
+fn link_action_of(word: &[u8]) -> Option<LinkAction>
+    ensures { result ≡ link_action_of word.now }
+{
+    if is_word(word, "open") {
+        return Some(LinkAction::Open);
+    }
+    if is_word(word, "take") {
+        return Some(LinkAction::Take);
+    }
+    if is_word(word, "send") {
+        return Some(LinkAction::Send);
+    }
+    if is_word(word, "accept") {
+        return Some(LinkAction::Accept);
+    }
+    if is_word(word, "confirm") {
+        return Some(LinkAction::Confirm);
+    }
+    if is_word(word, "note") {
+        return Some(LinkAction::Note);
+    }
+    if is_word(word, "settle") {
+        return Some(LinkAction::Settle);
+    }
+    None
+}
+
+/// The form of what a client or a link does by that word.
+#[tactic(auto, unfolding(crate::specs::Forms::action_keyword_of))]
+fn action_keyword_of(word: &[u8]) -> Option<Keyword>
+    ensures { result ≡ action_keyword_of word.now }
+{
+    match (client_action_of(word), link_action_of(word)) {
+        (Some(action), _) => Some(Keyword::Client(action)),
+        (None, Some(action)) => Some(Keyword::Link(action)),
+        (None, None) => None,
+    }
 }
 
 /// The form that the first word names.
@@ -64,10 +112,7 @@ pub(crate) fn keyword_of(word: &[u8]) -> Option<Keyword>
     if is_word(word, "show") {
         return Some(Keyword::Show);
     }
-    match action_of(word) {
-        Some(action) => Some(Keyword::Link(action)),
-        None => None,
-    }
+    action_keyword_of(word)
 }
 
 fn all_texts(alloc: Global, words: &[Octets]) -> Result<bool, AllocError>
@@ -93,35 +138,6 @@ pub(crate) fn are_texts(alloc: Global, words: &[Octets]) -> Result<bool, AllocEr
         return Ok(false);
     }
     all_texts(alloc, words_from(words, 6))
-}
-
-/// The words after an option, if it stands first.
-#[tactic(auto, unfolding(crate::specs::Forms::without))]
-fn without<'a>(option: &str, words: &'a [Octets]) -> &'a [Octets]
-    ensures { result.now ≡ without option.now words.now }
-{
-    if is_word(word_at(words, 0), option) {
-        words_from(words, 1)
-    } else {
-        words
-    }
-}
-
-/// Whether the words are none, or some of a queue's options in their order.
-#[tactic(auto, unfolding(crate::specs::Forms::are_queue_options))]
-fn are_queue_options(words: &[Octets]) -> bool
-    ensures { result ≡ are_queue_options words.now }
-{
-    let rest = without("durable", words);
-    let rest = without("exclusive", rest);
-    without("auto-delete", rest).is_empty()
-}
-
-/// Whether the words are this option alone.
-pub(crate) fn is_alone(option: &str, words: &[Octets]) -> bool
-    ensures { result ≡ is_alone option.now words.now }
-{
-    words.len() == 1 && is_word(word_at(words, 0), option)
 }
 
 #[tactic(auto, unfolding(crate::specs::Forms::is_unbuilt_declare))]
@@ -202,6 +218,17 @@ pub(crate) fn is_unbuilt(
     }
 }
 
+/// The words of what a client does, without options.
+fn client_word_count(action: ClientAction) -> usize
+    ensures { result ≡ client_word_count action }
+{
+    match action {
+        ClientAction::Consume => 5,
+        ClientAction::Close => 3,
+        _ => 4,
+    }
+}
+
 /// The words of a form, without its options.
 fn word_count(keyword: Keyword) -> usize
     ensures { result ≡ word_count keyword }
@@ -211,6 +238,7 @@ fn word_count(keyword: Keyword) -> usize
         Keyword::Declare => 5,
         Keyword::Publish => 6,
         Keyword::Shovel => 8,
+        Keyword::Client(action) => client_word_count(action),
         Keyword::Show => 1,
     }
 }
@@ -218,7 +246,11 @@ fn word_count(keyword: Keyword) -> usize
 fn takes_options(keyword: Keyword) -> bool
     ensures { result ≡ takes_options keyword }
 {
-    matches!(keyword, Keyword::Declare | Keyword::Publish)
+    match keyword {
+        Keyword::Declare | Keyword::Publish => true,
+        Keyword::Client(ClientAction::Consume | ClientAction::Get) => true,
+        _ => false,
+    }
 }
 
 fn has_empty_word(words: &[Octets]) -> bool

@@ -1,8 +1,28 @@
 //! The forms of lines.
 
+/// What a client does with a copy that it holds.
+#[derive(Clone, Copy)]
+pub enum Settlement {
+    Ack,
+    Reject,
+    Requeue,
+}
+
+/// What a client does with the copies of queues.
+#[derive(Clone, Copy)]
+pub enum ClientAction {
+    Consume,
+    Cancel,
+    Deliver,
+    Get,
+    Settle(Settlement),
+    Purge,
+    Close,
+}
+
 /// What a link does.
 #[derive(Clone, Copy)]
-pub enum Action {
+pub enum LinkAction {
     Open,
     Take,
     Send,
@@ -20,6 +40,7 @@ pub enum Keyword {
     Publish,
     Flush,
     Shovel,
-    Link(Action),
+    Client(ClientAction),
+    Link(LinkAction),
     Show,
 }

@@ -6,6 +6,7 @@ pub mod forms;
 pub mod keyword;
 pub mod links;
 pub mod numbers;
+pub mod options;
 pub mod reasons;
 pub mod schedule;
 pub mod script;

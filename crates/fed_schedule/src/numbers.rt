@@ -1,7 +1,7 @@
-//! Client numbers.
-ghost use Rattle.std.specs.Prelude.{◌≡◌, ◌+◌, ◌≤◌, ◌<◌};
+//! Decimal numbers: of clients, of prefetch counts and of copies.
+ghost use Rattle.std.specs.Prelude.{◌≡◌, ◌+◌, ◌≤◌, IfSome};
 ghost use Rattle.std.specs.List.{list_all};
-ghost use Rattle.fed_schedule.specs.Numbers.{is_digit, has_leading_zero, is_decimal, with_digit, number_up_to, client_of};
+ghost use Rattle.fed_schedule.specs.Numbers.{is_digit, has_leading_zero, is_decimal, with_digit, number_up_to, number_within, client_of, prefetch_count_of, copy_of};
 
 fn is_digit(octet: u8) -> bool
     ensures { result ≡ is_digit octet }
@@ -30,19 +30,17 @@ fn is_decimal(word: &[u8]) -> bool
 }
 
 /// One digit more.
-fn with_digit(most: u32, number: u32, digit: u8) -> u32
-    requires within { number ≤ most + 1 }
-    requires small { most < 1_000_000 }
+fn with_digit(most: u64, number: u128, digit: u8) -> u128
+    requires { number ≤ most + 1 }
     ensures value { result ≡ with_digit most number digit }
     ensures within { result ≤ most + 1 }
 {
-    (10 * number + u32::from(digit.saturating_sub(b'0'))).min(most + 1)
+    (10 * number + u128::from(digit.saturating_sub(b'0'))).min(u128::from(most) + 1)
 }
 
 /// The number that the digits write, or `most + 1` if it is greater than `most`.
 #[tactic(auto, unfolding(crate::specs::Numbers::number_up_to))]
-fn number_up_to(most: u32, digits: &[u8]) -> u32
-    requires { most < 1_000_000 }
+fn number_up_to(most: u64, digits: &[u8]) -> u128
     ensures value { result ≡ number_up_to most digits.now }
     ensures within { result ≤ most + 1 }
 {
@@ -53,17 +51,48 @@ fn number_up_to(most: u32, digits: &[u8]) -> u32
     number
 }
 
+/// The number that the word writes, if it is from `least` to `most`.
+#[tactic(auto, unfolding(crate::specs::Numbers::number_within))]
+fn number_within(least: u64, most: u64, word: &[u8]) -> Option<u64>
+    ensures value { result ≡ number_within least most word.now }
+    ensures within { IfSome result (λ number. number ≤ most) }
+{
+    if !is_decimal(word) {
+        return None;
+    }
+    let number = number_up_to(most, word);
+    if number < u128::from(least) || number > u128::from(most) {
+        return None;
+    }
+    Some(number as u64)
+}
+
 /// The client number that the word writes, 0 to 65,535.
 #[tactic(auto, unfolding(crate::specs::Numbers::client_of))]
 pub(crate) fn client_of(word: &[u8]) -> Option<u16>
     ensures { result ≡ client_of word.now }
 {
-    if !is_decimal(word) {
-        return None;
+    match number_within(0, 65_535, word) {
+        Some(number) => Some(number as u16),
+        None => None,
     }
-    let number = number_up_to(65_535, word);
-    if number > 65_535 {
-        return None;
+}
+
+/// The prefetch count that the word writes, 0 to 65,535.
+#[tactic(auto, unfolding(crate::specs::Numbers::prefetch_count_of))]
+pub(crate) fn prefetch_count_of(word: &[u8]) -> Option<u16>
+    ensures { result ≡ prefetch_count_of word.now }
+{
+    match number_within(0, 65_535, word) {
+        Some(number) => Some(number as u16),
+        None => None,
     }
-    Some(number as u16)
+}
+
+/// The number of a copy that the word writes, 1 to 2^64 - 1.
+#[tactic(auto, unfolding(crate::specs::Numbers::copy_of))]
+pub(crate) fn copy_of(word: &[u8]) -> Option<u64>
+    ensures { result ≡ copy_of word.now }
+{
+    number_within(1, u64::MAX, word)
 }

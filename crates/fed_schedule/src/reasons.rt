@@ -2,13 +2,15 @@
 ghost use Rattle.std.specs.Prelude.{◌≡◌, IfOk};
 ghost use Rattle.std.specs.List.{list_any};
 ghost use Rattle.fed_journal.specs.Names.{same_text};
-ghost use Rattle.fed_schedule.specs.Reasons.{is_late, has_bad_number, is_bad_run_name, is_bad_name, has_bad_place_and_name, has_bad_end, has_bad_shovel_names, has_bad_names, is_twice, has_bad_option, is_bad_queue, is_bad_body, has_bad_queues, has_bad_value};
+ghost use Rattle.fed_schedule.specs.Fields.{place_of, is_bad_place};
+ghost use Rattle.fed_schedule.specs.Options.{is_bad_prefetch};
+ghost use Rattle.fed_schedule.specs.Reasons.{is_late, is_bad_client, is_bad_copy, has_bad_client_number, has_bad_number, is_bad_run_name, is_bad_name, has_bad_place_and_name, has_bad_end, has_bad_shovel_names, has_bad_consumer_names, has_bad_client_names, has_bad_names, is_twice, has_bad_client_option, has_bad_option, is_bad_queue, is_bad_body, has_bad_queues, has_bad_value};
 
 use crate::fields::{is_bad_place, is_long, is_run_name, place_of};
-use crate::forms::is_alone;
-use crate::keyword::Keyword;
+use crate::keyword::{ClientAction, Keyword};
 use crate::links::is_bad_link;
-use crate::numbers::client_of;
+use crate::numbers::{client_of, copy_of};
+use crate::options::{are_consumer_options, is_alone, is_bad_prefetch};
 use crate::words::{is_word, octets_of, text_of, word_at, words_from};
 use fed_journal::text::{Octets, Text, is_reserved};
 use std::alloc::{AllocError, Global};
@@ -26,14 +28,46 @@ pub(crate) fn is_late(begun: bool, keyword: Keyword) -> bool
     }
 }
 
-/// Whether the client's number is none.
+fn is_bad_client(word: &[u8]) -> bool
+    ensures { result ≡ is_bad_client word.now }
+{
+    client_of(word).is_none()
+}
+
+fn is_bad_copy(word: &[u8]) -> bool
+    ensures { result ≡ is_bad_copy word.now }
+{
+    copy_of(word).is_none()
+}
+
+fn has_bad_prefetch(words: &[Octets]) -> bool
+    ensures { result ≡ list_any is_bad_prefetch words.now }
+{
+    words.iter().any(|word| is_bad_prefetch(word.as_slice()))
+}
+
+/// Whether a prefetch count, or the number of a copy, is none.
+#[tactic(auto, unfolding(crate::specs::Reasons::has_bad_client_number))]
+fn has_bad_client_number(action: ClientAction, words: &[Octets]) -> bool
+    ensures { result ≡ has_bad_client_number action words.now }
+{
+    match action {
+        ClientAction::Consume => has_bad_prefetch(words_from(words, 5)),
+        ClientAction::Settle(_) => is_bad_copy(word_at(words, 3)),
+        _ => false,
+    }
+}
+
+/// Whether a number of the line is none.
 #[tactic(auto, unfolding(crate::specs::Reasons::has_bad_number))]
 pub(crate) fn has_bad_number(keyword: Keyword, words: &[Octets]) -> bool
     ensures { result ≡ has_bad_number keyword words.now }
 {
     match keyword {
-        Keyword::Declare => client_of(word_at(words, 2)).is_none(),
-        Keyword::Publish => client_of(word_at(words, 2)).is_none(),
+        Keyword::Declare | Keyword::Publish => is_bad_client(word_at(words, 2)),
+        Keyword::Client(action) => {
+            is_bad_client(word_at(words, 2)) || has_bad_client_number(action, words)
+        }
         _ => false,
     }
 }
@@ -85,6 +119,38 @@ fn has_bad_shovel_names(alloc: Global, words: &[Octets]) -> Result<bool, AllocEr
     has_bad_end(alloc, word_at(words, 5), word_at(words, 6))
 }
 
+fn has_bad_place(alloc: Global, word: &[u8]) -> Result<bool, AllocError>
+    ensures { IfOk result (λ bad. bad ≡ is_bad_place (place_of word.now)) }
+{
+    let place = place_of(alloc, word)?;
+    Ok(is_bad_place(&place))
+}
+
+fn has_bad_consumer_names(alloc: Global, words: &[Octets]) -> Result<bool, AllocError>
+    ensures { IfOk result (λ bad. bad ≡ has_bad_consumer_names words.now) }
+{
+    if has_bad_place_and_name(alloc, word_at(words, 1), word_at(words, 3))? {
+        return Ok(true);
+    }
+    is_bad_name(alloc, word_at(words, 4))
+}
+
+/// Whether a client's place, the name of its queue or its consumer's tag is none.
+#[tactic(auto, unfolding(crate::specs::Reasons::has_bad_client_names))]
+fn has_bad_client_names(
+    alloc: Global,
+    action: ClientAction,
+    words: &[Octets],
+) -> Result<bool, AllocError>
+    ensures { IfOk result (λ bad. bad ≡ has_bad_client_names action words.now) }
+{
+    match action {
+        ClientAction::Consume => has_bad_consumer_names(alloc, words),
+        ClientAction::Settle(_) | ClientAction::Close => has_bad_place(alloc, word_at(words, 1)),
+        _ => has_bad_place_and_name(alloc, word_at(words, 1), word_at(words, 3)),
+    }
+}
+
 /// Whether a name is too long, or no run name where it has to be one.
 #[tactic(auto, unfolding(crate::specs::Reasons::has_bad_names))]
 pub(crate) fn has_bad_names(
@@ -101,6 +167,7 @@ pub(crate) fn has_bad_names(
         Keyword::Flush => is_bad_run_name(alloc, word_at(words, 1)),
         Keyword::Shovel => has_bad_shovel_names(alloc, words),
         Keyword::Show => Ok(false),
+        Keyword::Client(action) => has_bad_client_names(alloc, action, words),
         Keyword::Link(_) => is_bad_link(alloc, word_at(words, 1)),
     }
 }
@@ -130,6 +197,18 @@ pub(crate) fn is_twice(
     }
 }
 
+/// Whether the words that are left are not the options of what a client does.
+#[tactic(auto, unfolding(crate::specs::Reasons::has_bad_client_option))]
+fn has_bad_client_option(action: ClientAction, words: &[Octets]) -> bool
+    ensures { result ≡ has_bad_client_option action words.now }
+{
+    match action {
+        ClientAction::Consume => !are_consumer_options(words_from(words, 5)),
+        ClientAction::Get => words.len() != 4 && !is_alone("no-ack", words_from(words, 4)),
+        _ => false,
+    }
+}
+
 /// Whether a fixed word is none of its choices, or words are left over.
 #[tactic(auto, unfolding(crate::specs::Reasons::has_bad_option))]
 pub(crate) fn has_bad_option(keyword: Keyword, words: &[Octets]) -> bool
@@ -140,6 +219,7 @@ pub(crate) fn has_bad_option(keyword: Keyword, words: &[Octets]) -> bool
             || !is_alone("durable", words_from(words, 5)),
         Keyword::Publish => words.len() != 6 && !is_alone("persistent", words_from(words, 6)),
         Keyword::Shovel => !is_word(word_at(words, 7), "on-confirm"),
+        Keyword::Client(action) => has_bad_client_option(action, words),
         _ => false,
     }
 }

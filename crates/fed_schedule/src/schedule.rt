@@ -189,6 +189,37 @@ mod tests {
     }
 
     #[test]
+    fn reads_what_clients_do(rt: HostRuntime) -> Result<(), Fail> {
+        let lines =
+            b"consume a 1 q t no-ack prefetch=7\ncancel a 1 t\ndeliver a 1 t\nget a 1 q\nack a 1 18446744073709551615\nreject a 1 2\nrequeue a 1 3\npurge a 1 q\nclose a 9";
+        let script = read(rt.alloc(), lines)?;
+        assert_eq!(rt; script.events.len(), 9);
+        assert!(rt;
+            matches!(
+                &script.events[0].1,
+                Event::Consume {
+                    no_ack: true,
+                    prefetch: 7,
+                    ..
+                }
+            )
+        );
+        assert!(rt;
+            matches!(&script.events[1].1, Event::Cancel { tag, .. } if tag.as_str() == "t")
+        );
+        assert!(rt; matches!(&script.events[2].1, Event::Deliver { .. }));
+        assert!(rt; matches!(&script.events[3].1, Event::Get { no_ack: false, .. }));
+        assert!(rt; matches!(&script.events[4].1, Event::Ack { copy: u64::MAX, .. }));
+        assert!(rt; matches!(&script.events[5].1, Event::Reject { copy: 2, .. }));
+        assert!(rt; matches!(&script.events[6].1, Event::Requeue { copy: 3, .. }));
+        assert!(rt;
+            matches!(&script.events[7].1, Event::Purge { queue, .. } if queue.as_str() == "q")
+        );
+        assert!(rt; matches!(&script.events[8].1, Event::Close { client: 9, .. }));
+        Ok(())
+    }
+
+    #[test]
     fn refuses_the_first_bad_line(rt: HostRuntime) {
         let refused = read(rt.alloc(), b"broker a\nbroker a\nflush %");
         assert!(rt;

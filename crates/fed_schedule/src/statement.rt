@@ -1,14 +1,16 @@
 //! What a line states.
 ghost use Rattle.std.specs.Prelude.{◌≡◌, IfOk};
-ghost use Rattle.fed_schedule.specs.Statements.{link_event, declare_event, publish_event, shovel_of, shovel_event, statement_of};
+ghost use Rattle.fed_schedule.specs.Statements.{link_event, client_at, declare_event, publish_event, shovel_of, shovel_event, consume_event, cancel_event, deliver_event, get_event, settlement_event, settle_event, purge_event, close_event, client_event, statement_of};
 
 use crate::fields::place_of;
-use crate::keyword::{Action, Keyword};
+use crate::keyword::{ClientAction, Keyword, LinkAction, Settlement};
 use crate::links::link_name;
-use crate::numbers::client_of;
-use crate::words::{octets_of, text_of, word_at};
+use crate::numbers::{client_of, copy_of};
+use crate::options::consumer_prefetch;
+use crate::words::{is_word, octets_of, text_of, word_at, words_from};
 use fed_journal::event::{Event, Shovel};
 use fed_journal::link::AckMode;
+use fed_journal::place::Place;
 use fed_journal::text::{Octets, Text};
 use std::alloc::{AllocError, Global};
 
@@ -19,18 +21,25 @@ pub enum Statement {
     Event(Event),
 }
 
-fn link_event(action: Action, link: Text) -> Event
+fn link_event(action: LinkAction, link: Text) -> Event
     ensures { result ≡ link_event action link }
 {
     match action {
-        Action::Open => Event::Open { link },
-        Action::Take => Event::Take { link },
-        Action::Send => Event::Send { link },
-        Action::Accept => Event::Accept { link },
-        Action::Confirm => Event::Confirm { link },
-        Action::Note => Event::Note { link },
-        Action::Settle => Event::Settle { link },
+        LinkAction::Open => Event::Open { link },
+        LinkAction::Take => Event::Take { link },
+        LinkAction::Send => Event::Send { link },
+        LinkAction::Accept => Event::Accept { link },
+        LinkAction::Confirm => Event::Confirm { link },
+        LinkAction::Note => Event::Note { link },
+        LinkAction::Settle => Event::Settle { link },
     }
+}
+
+/// The client of a line.
+fn client_at(words: &[Octets]) -> u16
+    ensures { result ≡ client_at words.now }
+{
+    client_of(word_at(words, 2)).unwrap_or(0)
 }
 
 #[tactic(auto, unfolding(crate::specs::Statements::declare_event))]
@@ -38,7 +47,7 @@ fn declare_event(alloc: Global, words: &[Octets]) -> Result<Event, AllocError>
     ensures { IfOk result (λ event. event ≡ declare_event words.now) }
 {
     let place = place_of(alloc, word_at(words, 1))?;
-    let client = client_of(word_at(words, 2)).unwrap_or(0);
+    let client = client_at(words);
     let queue = text_of(alloc, word_at(words, 4))?;
     Ok(Event::DeclareQueue {
         place,
@@ -52,7 +61,7 @@ fn publish_event(alloc: Global, words: &[Octets]) -> Result<Event, AllocError>
     ensures { IfOk result (λ event. event ≡ publish_event words.now) }
 {
     let place = place_of(alloc, word_at(words, 1))?;
-    let client = client_of(word_at(words, 2)).unwrap_or(0);
+    let client = client_at(words);
     let key = text_of(alloc, word_at(words, 4))?;
     let body = octets_of(alloc, word_at(words, 5))?;
     Ok(Event::Publish {
@@ -95,6 +104,134 @@ fn shovel_event(alloc: Global, words: &[Octets]) -> Result<Event, AllocError>
     })
 }
 
+#[tactic(auto, unfolding(crate::specs::Statements::consume_event))]
+fn consume_event(alloc: Global, words: &[Octets]) -> Result<Event, AllocError>
+    ensures { IfOk result (λ event. event ≡ consume_event words.now) }
+{
+    let place = place_of(alloc, word_at(words, 1))?;
+    let client = client_at(words);
+    let queue = text_of(alloc, word_at(words, 3))?;
+    let tag = text_of(alloc, word_at(words, 4))?;
+    Ok(Event::Consume {
+        place,
+        client,
+        queue,
+        tag,
+        no_ack: is_word(word_at(words, 5), "no-ack"),
+        prefetch: consumer_prefetch(words_from(words, 5)),
+    })
+}
+
+#[tactic(auto, unfolding(crate::specs::Statements::cancel_event))]
+fn cancel_event(alloc: Global, words: &[Octets]) -> Result<Event, AllocError>
+    ensures { IfOk result (λ event. event ≡ cancel_event words.now) }
+{
+    let place = place_of(alloc, word_at(words, 1))?;
+    let client = client_at(words);
+    let tag = text_of(alloc, word_at(words, 3))?;
+    Ok(Event::Cancel { place, client, tag })
+}
+
+#[tactic(auto, unfolding(crate::specs::Statements::deliver_event))]
+fn deliver_event(alloc: Global, words: &[Octets]) -> Result<Event, AllocError>
+    ensures { IfOk result (λ event. event ≡ deliver_event words.now) }
+{
+    let place = place_of(alloc, word_at(words, 1))?;
+    let client = client_at(words);
+    let tag = text_of(alloc, word_at(words, 3))?;
+    Ok(Event::Deliver { place, client, tag })
+}
+
+#[tactic(auto, unfolding(crate::specs::Statements::get_event))]
+fn get_event(alloc: Global, words: &[Octets]) -> Result<Event, AllocError>
+    ensures { IfOk result (λ event. event ≡ get_event words.now) }
+{
+    let place = place_of(alloc, word_at(words, 1))?;
+    let client = client_at(words);
+    let queue = text_of(alloc, word_at(words, 3))?;
+    Ok(Event::Get {
+        place,
+        client,
+        queue,
+        no_ack: words.len() != 4,
+    })
+}
+
+fn settlement_event(settlement: Settlement, place: Place, client: u16, copy: u64) -> Event
+    ensures { result ≡ settlement_event settlement place client copy }
+{
+    match settlement {
+        Settlement::Ack => Event::Ack {
+            place,
+            client,
+            copy,
+        },
+        Settlement::Reject => Event::Reject {
+            place,
+            client,
+            copy,
+        },
+        Settlement::Requeue => Event::Requeue {
+            place,
+            client,
+            copy,
+        },
+    }
+}
+
+#[tactic(auto, unfolding(crate::specs::Statements::settle_event))]
+fn settle_event(
+    alloc: Global,
+    settlement: Settlement,
+    words: &[Octets],
+) -> Result<Event, AllocError>
+    ensures { IfOk result (λ event. event ≡ settle_event settlement words.now) }
+{
+    let place = place_of(alloc, word_at(words, 1))?;
+    let client = client_at(words);
+    let copy = copy_of(word_at(words, 3)).unwrap_or(0);
+    Ok(settlement_event(settlement, place, client, copy))
+}
+
+#[tactic(auto, unfolding(crate::specs::Statements::purge_event))]
+fn purge_event(alloc: Global, words: &[Octets]) -> Result<Event, AllocError>
+    ensures { IfOk result (λ event. event ≡ purge_event words.now) }
+{
+    let place = place_of(alloc, word_at(words, 1))?;
+    let client = client_at(words);
+    let queue = text_of(alloc, word_at(words, 3))?;
+    Ok(Event::Purge {
+        place,
+        client,
+        queue,
+    })
+}
+
+#[tactic(auto, unfolding(crate::specs::Statements::close_event))]
+fn close_event(alloc: Global, words: &[Octets]) -> Result<Event, AllocError>
+    ensures { IfOk result (λ event. event ≡ close_event words.now) }
+{
+    let place = place_of(alloc, word_at(words, 1))?;
+    let client = client_at(words);
+    Ok(Event::Close { place, client })
+}
+
+/// What the words of a client's action state.
+#[tactic(auto, unfolding(crate::specs::Statements::client_event))]
+fn client_event(alloc: Global, action: ClientAction, words: &[Octets]) -> Result<Event, AllocError>
+    ensures { IfOk result (λ event. event ≡ client_event action words.now) }
+{
+    match action {
+        ClientAction::Consume => consume_event(alloc, words),
+        ClientAction::Cancel => cancel_event(alloc, words),
+        ClientAction::Deliver => deliver_event(alloc, words),
+        ClientAction::Get => get_event(alloc, words),
+        ClientAction::Settle(settlement) => settle_event(alloc, settlement, words),
+        ClientAction::Purge => purge_event(alloc, words),
+        ClientAction::Close => close_event(alloc, words),
+    }
+}
+
 /// What the words of a form state.
 #[tactic(auto, unfolding(crate::specs::Statements::statement_of))]
 pub(crate) fn statement_of(
@@ -114,6 +251,7 @@ pub(crate) fn statement_of(
         }
         Keyword::Shovel => Ok(Statement::Event(shovel_event(alloc, words)?)),
         Keyword::Show => Ok(Statement::Event(Event::Show)),
+        Keyword::Client(action) => Ok(Statement::Event(client_event(alloc, action, words)?)),
         Keyword::Link(action) => {
             let link = link_name(alloc, word_at(words, 1))?;
             Ok(Statement::Event(link_event(action, link)))
