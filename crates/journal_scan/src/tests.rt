@@ -3,13 +3,15 @@ ghost use Rattle.fed_journal.specs.Copies.{IsNumbered};
 ghost use Rattle.fed_journal.specs.declared.entry.Entry.TheVariants.{Published};
 
 use crate::configuration::{is_broker, is_place, queue_options};
+use crate::consumers::{ConsumerName, consumer, held_count};
 use crate::copies::{
     find_publication, is_copy_of, is_gone, is_secured, is_stored, must_be_stored, publication_of,
 };
 use crate::flight::{flight_confirmed, flight_noted, flight_published, flight_sent, flight_took};
-use crate::holds::{entered, first_ready, is_held, is_ready, ready_count};
+use crate::holds::{entered, first_ready, is_held, is_held_by, is_ready, ready_count};
 use crate::links::{is_shovel_set, link_of, links_of};
 use crate::phases::{is_open, session};
+use crate::standing::{CopyState, standing};
 use fed_journal::entry::{Entry, Publication, Publisher};
 use fed_journal::message::Message;
 use fed_journal::place::{Client, Place, QueueOptions};
@@ -60,10 +62,7 @@ fn publication(alloc: Global) -> Result<Publication, AllocError>
     Ok(Publication {
         place: place(alloc)?,
         number: 1,
-        by: Publisher::Client(Client {
-            connection: 1,
-            channel: 1,
-        }),
+        by: Publisher::Client(client()),
         message,
         limit: 0,
         first: 1,
@@ -87,6 +86,60 @@ fn took(alloc: Global) -> Result<Entry, AllocError> {
     })
 }
 
+fn client() -> Client {
+    Client {
+        connection: 1,
+        channel: 1,
+    }
+}
+
+fn consumed(alloc: Global) -> Result<Entry, AllocError>
+    ensures { IfOk result (λ entry. IsNumbered entry) }
+{
+    Ok(Entry::Consumed {
+        place: place(alloc)?,
+        client: client(),
+        queue: Text::from_str(alloc, "q")?,
+        tag: Text::from_str(alloc, "q")?,
+        no_ack: false,
+        prefetch: 1,
+    })
+}
+
+fn delivered(alloc: Global) -> Result<Entry, AllocError>
+    ensures { IfOk result (λ entry. IsNumbered entry) }
+{
+    Ok(Entry::Delivered {
+        place: place(alloc)?,
+        client: client(),
+        tag: Text::from_str(alloc, "q")?,
+        queue: Text::from_str(alloc, "q")?,
+        copy: 1,
+        no_ack: false,
+    })
+}
+
+#[test]
+fn a_consumer_holds_a_copy(rt: HostRuntime) -> Result<(), Fail> {
+    let alloc = rt.alloc();
+    let (at, queue) = (place(alloc)?, Text::from_str(alloc, "q")?);
+    let journal = [
+        Entry::Published(publication(alloc)?),
+        consumed(alloc)?,
+        delivered(alloc)?,
+    ];
+    let name = ConsumerName {
+        place: &at,
+        client: client(),
+        tag: &queue,
+    };
+    assert!(rt; is_held_by(&journal, &at, client(), 1));
+    assert!(rt; matches!(standing(&journal, 1), CopyState::Held(_)));
+    assert!(rt; consumer(&journal, name).is_some());
+    assert_eq!(rt; held_count(alloc, &journal, name, &queue)?, 1);
+    Ok(())
+}
+
 #[test]
 fn brokers_and_queues(rt: HostRuntime) -> Result<(), Fail> {
     let alloc = rt.alloc();
@@ -104,7 +157,11 @@ fn brokers_and_queues(rt: HostRuntime) -> Result<(), Fail> {
 #[test]
 fn a_link_takes_a_copy(rt: HostRuntime) -> Result<(), Fail> {
     let alloc = rt.alloc();
-    let journal = [opened(alloc)?, took(alloc)?];
+    let journal = [
+        Entry::Published(publication(alloc)?),
+        opened(alloc)?,
+        took(alloc)?,
+    ];
     let link = Text::from_str(alloc, "s/a/s")?;
     assert_eq!(rt; session(&journal, &link), 1);
     assert!(rt; is_open(&journal, &link));
