@@ -134,10 +134,20 @@ mod tests {
         })
     }
 
+    fn journal(alloc: Global) -> Result<Vec<Entry>, AllocError>
+        ensures { IfOk result (λ journal. All IsNumbered journal.items) }
+    {
+        let mut journal = Vec::new(alloc);
+        journal.push(begun(alloc)?)?;
+        journal.push(queue_made(alloc)?)?;
+        journal.push(shovel_set(alloc)?)?;
+        Ok(journal)
+    }
+
     #[test]
     fn a_queue_and_a_link(rt: HostRuntime) -> Result<(), Fail> {
         let alloc = rt.alloc();
-        let journal = [begun(alloc)?, queue_made(alloc)?, shovel_set(alloc)?];
+        let journal = journal(alloc)?;
         let mut page = Page::new(alloc);
         push_listing(alloc, journal.as_slice(), &mut page)?;
         assert_eq!(rt;
