@@ -1,4 +1,4 @@
-ghost use Rattle.std.specs.Prelude.{IfOk};
+ghost use Rattle.std.specs.Prelude.{IfOk, All};
 ghost use Rattle.fed_journal.specs.Copies.{IsNumbered};
 ghost use Rattle.fed_journal.specs.declared.entry.Entry.TheVariants.{Published};
 
@@ -119,15 +119,43 @@ fn delivered(alloc: Global) -> Result<Entry, AllocError>
     })
 }
 
+fn with_queue(alloc: Global) -> Result<Vec<Entry>, AllocError> {
+    let mut journal = Vec::new(alloc);
+    journal.push(begun(alloc)?)?;
+    journal.push(made(alloc)?)?;
+    Ok(journal)
+}
+
+fn with_publication(alloc: Global) -> Result<Vec<Entry>, AllocError>
+    ensures { IfOk result (λ journal. All IsNumbered journal.items) }
+{
+    let mut journal = Vec::new(alloc);
+    journal.push(made(alloc)?)?;
+    journal.push(Entry::Published(publication(alloc)?))?;
+    Ok(journal)
+}
+
+fn with_consumer(alloc: Global) -> Result<Vec<Entry>, AllocError>
+    ensures { IfOk result (λ journal. All IsNumbered journal.items) }
+{
+    let mut journal = with_publication(alloc)?;
+    journal.push(consumed(alloc)?)?;
+    journal.push(delivered(alloc)?)?;
+    Ok(journal)
+}
+
+fn with_link(alloc: Global) -> Result<Vec<Entry>, AllocError> {
+    let mut journal = with_publication(alloc)?;
+    journal.push(opened(alloc)?)?;
+    journal.push(took(alloc)?)?;
+    Ok(journal)
+}
+
 #[test]
 fn a_consumer_holds_a_copy(rt: HostRuntime) -> Result<(), Fail> {
     let alloc = rt.alloc();
     let (at, queue) = (place(alloc)?, Text::from_str(alloc, "q")?);
-    let journal = [
-        Entry::Published(publication(alloc)?),
-        consumed(alloc)?,
-        delivered(alloc)?,
-    ];
+    let journal = with_consumer(alloc)?;
     let name = ConsumerName {
         place: &at,
         client: client(),
@@ -143,7 +171,7 @@ fn a_consumer_holds_a_copy(rt: HostRuntime) -> Result<(), Fail> {
 #[test]
 fn brokers_and_queues(rt: HostRuntime) -> Result<(), Fail> {
     let alloc = rt.alloc();
-    let journal = [begun(alloc)?, made(alloc)?];
+    let journal = with_queue(alloc)?;
     let (at, queue) = (place(alloc)?, Text::from_str(alloc, "q")?);
     assert!(rt; is_broker(&journal, &at.broker));
     assert!(rt; is_place(&journal, &at));
@@ -157,11 +185,7 @@ fn brokers_and_queues(rt: HostRuntime) -> Result<(), Fail> {
 #[test]
 fn a_link_takes_a_copy(rt: HostRuntime) -> Result<(), Fail> {
     let alloc = rt.alloc();
-    let journal = [
-        Entry::Published(publication(alloc)?),
-        opened(alloc)?,
-        took(alloc)?,
-    ];
+    let journal = with_link(alloc)?;
     let link = Text::from_str(alloc, "s/a/s")?;
     assert_eq!(rt; session(&journal, &link), 1);
     assert!(rt; is_open(&journal, &link));
@@ -178,9 +202,8 @@ fn a_link_takes_a_copy(rt: HostRuntime) -> Result<(), Fail> {
 fn a_copy_is_ready_and_not_stored(rt: HostRuntime) -> Result<(), Fail> {
     let alloc = rt.alloc();
     let (at, queue) = (place(alloc)?, Text::from_str(alloc, "q")?);
-    let published = publication(alloc)?;
-    assert!(rt; is_copy_of(&published, 1));
-    let journal = [made(alloc)?, Entry::Published(published)];
+    assert!(rt; is_copy_of(&publication(alloc)?, 1));
+    let journal = with_publication(alloc)?;
     assert_eq!(rt; entered(alloc, &journal, &at, &queue)?.len(), 1);
     assert_eq!(rt; ready_count(alloc, &journal, &at, &queue)?, 1);
     assert_eq!(rt; first_ready(&journal, &at, &queue), Some(1));
