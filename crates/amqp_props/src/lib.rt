@@ -1,0 +1,15 @@
+//! The properties of a message and its content header, messages, and the descriptions of links.
+#![tactic(auto)]
+
+mod link;
+mod message;
+mod properties;
+mod text;
+
+pub use link::{
+    AckMode, DeleteAfter, ExchangeKind, LinkKind, LinkSpec, Place, QueueOptions, SourceAt,
+    StartState, TargetAt,
+};
+pub use message::Message;
+pub use properties::Properties;
+pub use text::{FieldTable, Octets, Text};

@@ -1,0 +1,157 @@
+//! A link between two brokers, as its configuration describes it.
+use crate::properties::Properties;
+use crate::text::Text;
+
+/// A broker and a virtual host of it.
+#[derive(Clone, Debug, Drop, PartialEq, Eq)]
+pub struct Place {
+    /// Which broker of the run, from 0.
+    pub broker: u32,
+    /// The name of the broker's cluster.
+    pub cluster: Text,
+    /// The name of the virtual host.
+    pub vhost: Text,
+}
+
+/// What a link moves messages for.
+#[derive(Clone, Copy, Debug, PartialEq, Eq)]
+pub enum LinkKind {
+    /// A federated exchange.
+    Exchange,
+    /// A federated queue.
+    Queue,
+    /// A shovel.
+    Shovel,
+}
+
+/// Whether a configured link can be opened.
+#[derive(Clone, Copy, Debug, PartialEq, Eq)]
+pub enum StartState {
+    /// It can.
+    Start,
+    /// Both ends of a federation link would be one place.
+    SelfLink,
+    /// No URI of a side names a place of the run.
+    NoBroker,
+    /// Its name has over 230 octets.
+    NameTooLong,
+}
+
+/// When a link removes a copy from its source (RabbitMQ, federation and shovels: `ack-mode`).
+#[derive(Clone, Copy, Debug, PartialEq, Eq)]
+pub enum AckMode {
+    /// After the target broker has confirmed the publication.
+    OnConfirm,
+    /// After it was sent on.
+    OnPublish,
+    /// As it is taken.
+    NoAck,
+}
+
+/// When a shovel removes itself (RabbitMQ, dynamic shovels: `src-delete-after`).
+#[derive(Clone, Copy, Debug, PartialEq, Eq)]
+pub enum DeleteAfter {
+    /// Not at all.
+    Never,
+    /// After so many messages.
+    Count(u64),
+    /// After the messages that were ready in the source when it first opened.
+    QueueLength,
+}
+
+/// The type of an exchange (AMQP 0-9-1, 3.1.3 "Exchange Types").
+#[derive(Clone, Copy, Debug, PartialEq, Eq)]
+pub enum ExchangeKind {
+    /// Routes by the whole routing key.
+    Direct,
+    /// Routes everything.
+    Fanout,
+    /// Routes by the headers.
+    Headers,
+    /// Routes by patterns of words.
+    Topic,
+}
+
+/// The options of a queue (AMQP 0-9-1, queue.declare).
+#[derive(Clone, Copy, Debug, PartialEq, Eq)]
+pub struct QueueOptions {
+    /// It outlives a restart of its broker.
+    pub durable: bool,
+    /// It belongs to one connection.
+    pub exclusive: bool,
+    /// It goes with its last consumer.
+    pub auto_delete: bool,
+}
+
+/// What a link takes messages from.
+#[derive(Clone, Debug, Drop, PartialEq, Eq)]
+pub enum SourceAt {
+    /// The upstream exchange of an exchange link, declared with this type where it is missing.
+    Upstream {
+        exchange: Text,
+        kind: ExchangeKind,
+        durable: bool,
+    },
+    /// The upstream queue of a queue link, declared with these options where it is missing.
+    UpstreamQueue {
+        queue: Text,
+        options: QueueOptions,
+    },
+    /// A shovel's `src-queue`.
+    Queue(Text),
+    /// A shovel's `src-exchange` and `src-exchange-key`.
+    Exchange {
+        name: Text,
+        key: Text,
+    },
+}
+
+/// Where a link publishes to.
+#[derive(Clone, Debug, Drop, PartialEq, Eq)]
+pub enum TargetAt {
+    /// The federated exchange of an exchange link.
+    Downstream(Text),
+    /// The federated queue of a queue link.
+    DownstreamQueue(Text),
+    /// A shovel's `dest-queue`.
+    Queue(Text),
+    /// A shovel's `dest-exchange` and `dest-exchange-key`; without a key, each message keeps its own.
+    Exchange { name: Text, key: Option<Text> },
+    /// The exchange and the key that each message had at its source.
+    Original,
+}
+
+/// The description of a link.
+#[derive(Clone, Debug, Drop)]
+pub struct LinkSpec {
+    /// The name, which is its identity.
+    pub name: Text,
+    /// What it is for.
+    pub kind: LinkKind,
+    /// Whether it can be opened.
+    pub start: StartState,
+    /// The place whose configuration sets the link.
+    pub owner: Place,
+    /// Where it takes from; none exactly where no URI of that side names a place of the run.
+    pub source: Option<Place>,
+    /// Where it publishes; none exactly where no URI of that side names a place of the run.
+    pub target: Option<Place>,
+    /// What it takes messages from there.
+    pub source_at: SourceAt,
+    /// What it publishes to there.
+    pub target_at: TargetAt,
+    /// When it removes a copy from its source.
+    pub mode: AckMode,
+    /// How many copies it may hold unacknowledged; 0 is no limit.
+    pub prefetch: u16,
+    /// How long it waits after a drop until it opens again.
+    pub delay: u64,
+    /// How many federation links a message may cross.
+    pub max_hops: u32,
+    /// When a shovel removes itself.
+    pub delete_after: DeleteAfter,
+    /// Whether a shovel adds its forward header (RabbitMQ, dynamic shovels: `dest-add-forward-headers`).
+    pub stamp: bool,
+    /// The properties that a shovel sets on each message (`dest-publish-properties`).
+    pub props: Properties,
+}

@@ -1,0 +1,169 @@
+//! Texts, octets and field tables, which contracts see as lists and pairs without where they lie in memory.
+ghost use Rattle.std.specs.Prelude.{◌≡◌, List, ℕ, IfOk, string_bytes, nat_eq};
+ghost use Rattle.std.specs.Cmp.Lexicographic.{pointwise};
+ghost use Rattle.std.specs.Cmp.Rules.{comparing};
+ghost use Rattle.std.proofs.Common.{rules};
+ghost use Rattle.field_tables.specs.View.{table_view};
+
+use field_tables::Table;
+use std::alloc::{AllocError, Global};
+use std::marker::Model;
+use std::rc::Rc;
+
+/// A name or a key: UTF-8 text, seen as its octets.
+#[derive(Debug, Drop)]
+pub struct Text {
+    inner: String,
+}
+
+impl Model for Text {
+    ghost use Rattle.std.specs.Prelude.{List, ℕ, string_bytes};
+
+    ghost Value = { List ℕ };
+
+    ghost view = { λ t. string_bytes t.inner };
+}
+
+impl Text {
+    /// The text of a string.
+    pub fn new(inner: String) -> Self
+        ensures { result ≡ string_bytes inner }
+    {
+        Text { inner }
+    }
+
+    /// A copy of the text.
+    pub fn from_str(alloc: Global, text: &str) -> Result<Self, AllocError>
+        ensures { IfOk result (λ copy. copy ≡ text.now) }
+    {
+        let inner = String::from_str(alloc, text)?;
+        Ok(Text { inner })
+    }
+
+    /// The text as Rust's.
+    pub fn as_str(&self) -> &str
+        ensures { result.now ≡ self.now }
+    {
+        self.inner.as_str()
+    }
+}
+
+impl Clone for Text {
+    ghost is_clone = { λ t copy. copy ≡ t };
+
+    fn clone(&self) -> Result<Self, AllocError> {
+        let inner = self.inner.clone()?;
+        Ok(Text { inner })
+    }
+}
+
+impl PartialEq for Text {
+    ghost eq = { pointwise nat_eq };
+
+    ghost laws = { Prim.search (comparing, rules) };
+
+    fn eq(&self, other: &Text) -> bool {
+        self.inner.as_str() == other.inner.as_str()
+    }
+}
+
+impl Eq for Text {
+    ghost laws = { Prim.search (comparing, rules) };
+}
+
+/// The body of a message: octets, seen as their list. A clone shares them.
+#[derive(Debug, Drop)]
+pub struct Octets {
+    inner: Rc<Vec<u8>>,
+}
+
+impl Model for Octets {
+    ghost use Rattle.std.specs.Prelude.{List, ℕ};
+
+    ghost Value = { List ℕ };
+
+    ghost view = { λ o. o.inner.value.items };
+}
+
+impl Octets {
+    /// The octets of a vector.
+    pub fn new(alloc: Global, octets: Vec<u8>) -> Result<Self, AllocError>
+        ensures { IfOk result (λ o. o ≡ octets.items) }
+    {
+        let inner = Rc::new(alloc, octets)?;
+        Ok(Octets { inner })
+    }
+
+    /// The octets as a slice.
+    pub fn as_slice(&self) -> &[u8]
+        ensures { result.now ≡ self.now }
+    {
+        self.inner.as_slice()
+    }
+}
+
+impl Clone for Octets {
+    ghost is_clone = { λ o copy. copy ≡ o };
+
+    fn clone(&self) -> Result<Self, AllocError> {
+        let inner = self.inner.clone()?;
+        Ok(Octets { inner })
+    }
+}
+
+impl PartialEq for Octets {
+    ghost eq = { pointwise nat_eq };
+
+    ghost laws = { Prim.search (comparing, rules) };
+
+    fn eq(&self, other: &Octets) -> bool {
+        self.inner.as_slice() == other.inner.as_slice()
+    }
+}
+
+impl Eq for Octets {
+    ghost laws = { Prim.search (comparing, rules) };
+}
+
+/// A field table, seen as its names and values.
+#[derive(Debug, Drop)]
+pub struct FieldTable {
+    inner: Table,
+}
+
+impl Model for FieldTable {
+    ghost use Rattle.field_tables.specs.Fields.{Pairs};
+    ghost use Rattle.amqp_props.specs.Codes.{coded_pairs};
+    ghost use Rattle.field_tables.specs.View.{table_view};
+
+    ghost Value = { Pairs };
+
+    ghost coded = { coded_pairs };
+
+    ghost view = { λ t. table_view t.inner };
+}
+
+impl FieldTable {
+    /// The field table of a table.
+    pub fn new(inner: Table) -> Self
+        ensures { result ≡ table_view inner }
+    {
+        FieldTable { inner }
+    }
+
+    /// The table itself.
+    pub fn as_table(&self) -> &Table
+        ensures { table_view result.now ≡ self.now }
+    {
+        &self.inner
+    }
+}
+
+impl Clone for FieldTable {
+    ghost is_clone = { λ t copy. copy ≡ t };
+
+    fn clone(&self) -> Result<Self, AllocError> {
+        let inner = self.inner.clone()?;
+        Ok(FieldTable { inner })
+    }
+}
