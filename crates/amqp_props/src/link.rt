@@ -1,9 +1,12 @@
 //! A link between two brokers, as its configuration describes it.
+ghost use Rattle.std.specs.Prelude.{◌≡◌, IfOk};
+
 use crate::properties::Properties;
-use crate::text::Text;
+use crate::text::{Text, copy_text};
+use std::alloc::AllocError;
 
 /// A broker and a virtual host of it.
-#[derive(Clone, Debug, Drop, PartialEq, Eq)]
+#[derive(Debug, Drop, PartialEq, Eq)]
 pub struct Place {
     /// Which broker of the run, from 0.
     pub broker: u32,
@@ -84,7 +87,7 @@ pub struct QueueOptions {
 }
 
 /// What a link takes messages from.
-#[derive(Clone, Debug, Drop, PartialEq, Eq)]
+#[derive(Debug, Drop, PartialEq, Eq)]
 pub enum SourceAt {
     /// The upstream exchange of an exchange link, declared with this type where it is missing.
     Upstream {
@@ -107,7 +110,7 @@ pub enum SourceAt {
 }
 
 /// Where a link publishes to.
-#[derive(Clone, Debug, Drop, PartialEq, Eq)]
+#[derive(Debug, Drop, PartialEq, Eq)]
 pub enum TargetAt {
     /// The federated exchange of an exchange link.
     Downstream(Text),
@@ -122,7 +125,7 @@ pub enum TargetAt {
 }
 
 /// The description of a link.
-#[derive(Clone, Debug, Drop)]
+#[derive(Debug, Drop)]
 pub struct LinkSpec {
     /// The name, which is its identity.
     pub name: Text,
@@ -154,4 +157,105 @@ pub struct LinkSpec {
     pub stamp: bool,
     /// The properties that a shovel sets on each message (`dest-publish-properties`).
     pub props: Properties,
+}
+
+impl Clone for Place {
+    ghost is_clone = { λ place copy. copy ≡ place };
+
+    fn clone(&self) -> Result<Self, AllocError> {
+        let cluster = self.cluster.clone()?;
+        let vhost = self.vhost.clone()?;
+        Ok(Place {
+            broker: self.broker,
+            cluster,
+            vhost,
+        })
+    }
+}
+
+impl Clone for SourceAt {
+    ghost is_clone = { λ source copy. copy ≡ source };
+
+    fn clone(&self) -> Result<Self, AllocError> {
+        match self {
+            SourceAt::Upstream {
+                exchange,
+                kind,
+                durable,
+            } => Ok(SourceAt::Upstream {
+                exchange: exchange.clone()?,
+                kind: *kind,
+                durable: *durable,
+            }),
+            SourceAt::UpstreamQueue { queue, options } => Ok(SourceAt::UpstreamQueue {
+                queue: queue.clone()?,
+                options: *options,
+            }),
+            SourceAt::Queue(queue) => Ok(SourceAt::Queue(queue.clone()?)),
+            SourceAt::Exchange { name, key } => {
+                let name = name.clone()?;
+                let key = key.clone()?;
+                Ok(SourceAt::Exchange { name, key })
+            }
+        }
+    }
+}
+
+impl Clone for TargetAt {
+    ghost is_clone = { λ target copy. copy ≡ target };
+
+    fn clone(&self) -> Result<Self, AllocError> {
+        match self {
+            TargetAt::Downstream(exchange) => Ok(TargetAt::Downstream(exchange.clone()?)),
+            TargetAt::DownstreamQueue(queue) => Ok(TargetAt::DownstreamQueue(queue.clone()?)),
+            TargetAt::Queue(queue) => Ok(TargetAt::Queue(queue.clone()?)),
+            TargetAt::Exchange { name, key } => {
+                let name = name.clone()?;
+                let key = copy_text(key)?;
+                Ok(TargetAt::Exchange { name, key })
+            }
+            TargetAt::Original => Ok(TargetAt::Original),
+        }
+    }
+}
+
+/// A copy of a place that may be absent.
+fn copy_place(place: &Option<Place>) -> Result<Option<Place>, AllocError>
+    ensures { IfOk result (λ copy. copy ≡ place.now) }
+{
+    match place {
+        Some(place) => Ok(Some(place.clone()?)),
+        None => Ok(None),
+    }
+}
+
+impl Clone for LinkSpec {
+    ghost is_clone = { λ spec copy. copy ≡ spec };
+
+    fn clone(&self) -> Result<Self, AllocError> {
+        let name = self.name.clone()?;
+        let owner = self.owner.clone()?;
+        let source = copy_place(&self.source)?;
+        let target = copy_place(&self.target)?;
+        let source_at = self.source_at.clone()?;
+        let target_at = self.target_at.clone()?;
+        let props = self.props.clone()?;
+        Ok(LinkSpec {
+            name,
+            kind: self.kind,
+            start: self.start,
+            owner,
+            source,
+            target,
+            source_at,
+            target_at,
+            mode: self.mode,
+            prefetch: self.prefetch,
+            delay: self.delay,
+            max_hops: self.max_hops,
+            delete_after: self.delete_after,
+            stamp: self.stamp,
+            props,
+        })
+    }
 }

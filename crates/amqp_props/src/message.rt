@@ -1,9 +1,12 @@
 //! What a publisher sends.
+ghost use Rattle.std.specs.Prelude.{◌≡◌};
+
 use crate::properties::Properties;
 use crate::text::{Octets, Text};
+use std::alloc::AllocError;
 
 /// A message (AMQP 0-9-1, basic.publish and the content that follows it).
-#[derive(Clone, Debug, Drop)]
+#[derive(Debug, Drop)]
 pub struct Message {
     /// The exchange that it is published to; empty for the default exchange.
     pub exchange: Text,
@@ -13,4 +16,21 @@ pub struct Message {
     pub props: Properties,
     /// Its body, which clones share.
     pub body: Octets,
+}
+
+impl Clone for Message {
+    ghost is_clone = { λ message copy. copy ≡ message };
+
+    fn clone(&self) -> Result<Self, AllocError> {
+        let exchange = self.exchange.clone()?;
+        let key = self.key.clone()?;
+        let props = self.props.clone()?;
+        let body = self.body.clone()?;
+        Ok(Message {
+            exchange,
+            key,
+            props,
+            body,
+        })
+    }
 }

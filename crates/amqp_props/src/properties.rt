@@ -1,8 +1,11 @@
 //! The properties of a message.
-use crate::text::{FieldTable, Text};
+ghost use Rattle.std.specs.Prelude.{◌≡◌};
+
+use crate::text::{FieldTable, Text, copy_table, copy_text};
+use std::alloc::AllocError;
 
 /// The properties of a message, each of which may be absent (AMQP 0-9-1, class basic).
-#[derive(Clone, Debug, Drop)]
+#[derive(Debug, Drop)]
 pub struct Properties {
     /// MIME content type.
     pub content_type: Option<Text>,
@@ -32,4 +35,27 @@ pub struct Properties {
     pub app_id: Option<Text>,
     /// Reserved, must be empty.
     pub reserved: Option<Text>,
+}
+
+impl Clone for Properties {
+    ghost is_clone = { λ props copy. copy ≡ props };
+
+    fn clone(&self) -> Result<Self, AllocError> {
+        Ok(Properties {
+            content_type: copy_text(&self.content_type)?,
+            content_encoding: copy_text(&self.content_encoding)?,
+            headers: copy_table(&self.headers)?,
+            delivery_mode: self.delivery_mode,
+            priority: self.priority,
+            correlation_id: copy_text(&self.correlation_id)?,
+            reply_to: copy_text(&self.reply_to)?,
+            expiration: copy_text(&self.expiration)?,
+            message_id: copy_text(&self.message_id)?,
+            timestamp: self.timestamp,
+            type_name: copy_text(&self.type_name)?,
+            user_id: copy_text(&self.user_id)?,
+            app_id: copy_text(&self.app_id)?,
+            reserved: copy_text(&self.reserved)?,
+        })
+    }
 }

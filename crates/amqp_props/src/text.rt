@@ -167,3 +167,23 @@ impl Clone for FieldTable {
         Ok(FieldTable { inner })
     }
 }
+
+/// A copy of a text that may be absent.
+pub(crate) fn copy_text(text: &Option<Text>) -> Result<Option<Text>, AllocError>
+    ensures { IfOk result (λ copy. copy ≡ text.now) }
+{
+    match text {
+        Some(text) => Ok(Some(text.clone()?)),
+        None => Ok(None),
+    }
+}
+
+/// A copy of a field table that may be absent.
+pub(crate) fn copy_table(table: &Option<FieldTable>) -> Result<Option<FieldTable>, AllocError>
+    ensures { IfOk result (λ copy. copy ≡ table.now) }
+{
+    match table {
+        Some(table) => Ok(Some(table.clone()?)),
+        None => Ok(None),
+    }
+}
