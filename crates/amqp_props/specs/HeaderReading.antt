@@ -85,14 +85,15 @@ fixed_at octets =
     else Err (Weight (number_at w16 2 octets))
     else Err (Class (number_at w16 0 octets))
 
--- what was read, where nothing follows it
-abbrev pub ended_at : ℕ → List (Option Value) → List ℕ → Result (ℕ × List (Option Value)) PropsFault
-ended_at size values [] = Ok (size, values)
-ended_at size values (b ∷ octets) = Err (Trailing (length (b ∷ octets)))
+-- nothing is left over
+abbrev pub ended_at : List ℕ → Result (Unit {0}) PropsFault
+ended_at [] = Ok tt
+ended_at (b ∷ octets) = Err (Trailing (length (b ∷ octets)))
 
 -- The size of the body and the values of a content header that is all of the octets.
 unfoldable pub header_at : List ℕ → Result (ℕ × List (Option Value)) PropsFault
 header_at octets = do
   fixed ← fixed_at octets
   xs ← properties_at fixed.1 0 property_rows fixed.2
-  ended_at fixed.0 xs.0 xs.1
+  end ← ended_at xs.1
+  Ok (fixed.0, xs.0)

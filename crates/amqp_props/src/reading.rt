@@ -6,7 +6,7 @@ ghost use Rattle.std.specs.Int.{w16, w64, bit_at};
 ghost use Rattle.amqp_props.specs.declared.properties.Properties.{Properties};
 ghost use Rattle.amqp_props.specs.declared.row.PropertyKind.TheVariants as kinds;
 ghost use Rattle.amqp_props.specs.ContentHeader.{property_rows, short_string, field_table, octet, longlong, values_of, header_spelling, IsHeader};
-ghost use Rattle.amqp_props.specs.HeaderReading.{Gives, found_at, text_at, property_at, properties_at, number_at, fixed_at, header_at};
+ghost use Rattle.amqp_props.specs.HeaderReading.{Gives, found_at, text_at, property_at, properties_at, number_at, fixed_at, ended_at, header_at};
 
 use crate::fault::PropsFault;
 use crate::properties::Properties;
@@ -217,6 +217,16 @@ fn properties_of(
     with_properties!(read_each alloc flags octets)
 }
 
+/// Nothing, where nothing is left over.
+fn ended_of(octets: &[u8]) -> Result<(), PropsFault>
+    ensures { Gives (λ x. x) result (ended_at octets.now) }
+{
+    match octets {
+        [] => Ok(()),
+        [_, ..] => Err(PropsFault::Trailing(octets.len())),
+    }
+}
+
 /// The size of the body, and the properties, of a content header that is all of the octets.
 #[tactic(auto, unfolding(crate::specs::HeaderReading::header_at))]
 fn header_of(alloc: Global, octets: &[u8]) -> Result<(u64, Properties), PropsFault>
@@ -224,8 +234,6 @@ fn header_of(alloc: Global, octets: &[u8]) -> Result<(u64, Properties), PropsFau
 {
     let (size, flags, octets) = fixed_of(octets)?;
     let (props, octets) = properties_of(alloc, flags, octets)?;
-    match octets {
-        [] => Ok((size, props)),
-        [_, ..] => Err(PropsFault::Trailing(octets.len())),
-    }
+    ended_of(octets)?;
+    Ok((size, props))
 }
