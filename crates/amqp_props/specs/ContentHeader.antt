@@ -82,23 +82,35 @@ flags_of (row ∷ rows) (value ∷ values) = (if is_some value then 2 ^ row.0 el
 flags_of [] values = 0
 flags_of (row ∷ rows) [] = 0
 
+-- The octets of a property that may be absent.
+abbrev pub optional_spelling : Option Value → List ℕ
+optional_spelling None = []
+optional_spelling (Some value) = value_spelling value
+
 -- The property list: the values of those that are present, one after the other (section 4.2.6.1).
 abbrev pub values_spelling : List (Option Value) → List ℕ
 values_spelling [] = []
-values_spelling (None ∷ values) = values_spelling values
-values_spelling (Some value ∷ values) = value_spelling value ++ values_spelling values
+values_spelling (value ∷ values) = optional_spelling value ++ values_spelling values
 
 -- The payload of a content header: the class, 60; the weight, 0; the size of the body; the flags; the values (section
 -- 4.2.6.1).
-unfoldable pub header_spelling : ℕ → Properties → List ℕ
-header_spelling size props =
+unfoldable pub payload_of : ℕ → List (Option Value) → List ℕ
+payload_of size values =
     to_be_bytes w16 60 ++ (to_be_bytes w16 0 ++ (to_be_bytes w64 size
-    ++ (to_be_bytes w16 (flags_of property_rows (values_of props)) ++ values_spelling (values_of props))))
+    ++ (to_be_bytes w16 (flags_of property_rows values) ++ values_spelling values)))
+
+-- The one spelling of the content header of a body of so many octets with these properties.
+abbrev pub header_spelling : ℕ → Properties → List ℕ
+header_spelling size props = payload_of size (values_of props)
+
+-- each value that is present can be spelled
+abbrev pub HaveSpelling : List (Option Value) → Type 0
+HaveSpelling values = AllByRecursion (λ value. IfSome value HasSpelling) values
 
 -- The header of a body of so many octets with these properties can be spelled.
 pub record IsHeader (size : ℕ) (props : Properties) : Type 0 where
   pub size_fits : size < 2 ^ 64
-  pub values_fit : AllByRecursion (λ value. IfSome value HasSpelling) (values_of props)
+  pub values_fit : HaveSpelling (values_of props)
 
 -- A text of at most 255 octets, if there is one.
 abbrev pub IsShort : Option (List ℕ) → Type 0

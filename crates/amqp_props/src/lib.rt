@@ -8,6 +8,7 @@ mod properties;
 mod reading;
 mod row;
 mod text;
+mod writing;
 
 pub use fault::PropsFault;
 pub use link::{

@@ -1,6 +1,6 @@
 //! Content headers from octets.
 
-ghost use Rattle.std.specs.Prelude.{◌≡◌, ◌+◌, ◌<◌, ◌≤◌, ◌^◌, ℕ, length, not, ◌==◌, if◌then◌else◌, option_map, IfOk};
+ghost use Rattle.std.specs.Prelude.{◌≡◌, ◌+◌, ◌<◌, ◌≤◌, ◌^◌, ℕ, length, not, ◌==◌, if◌then◌else◌, option_map, IfOk, Ok};
 ghost use Rattle.std.specs.Str.{is_utf8};
 ghost use Rattle.std.specs.Int.{w16, w64, bit_at};
 ghost use Rattle.amqp_props.specs.declared.properties.Properties.{Properties};
@@ -236,4 +236,22 @@ fn header_of(alloc: Global, octets: &[u8]) -> Result<(u64, Properties), PropsFau
     let (props, octets) = properties_of(alloc, flags, octets)?;
     ended_of(octets)?;
     Ok((size, props))
+}
+
+/// The size of the body, and the properties, of a content header that is all of the payload.
+///
+/// One pass over the octets; texts and the names, texts and byte arrays of the headers are copied. AMQP 0-9-1, 4.2.6.1
+/// "The Content Header".
+pub fn read_header(alloc: Global, payload: &[u8]) -> Result<(u64, Properties), PropsFault>
+    // What is read is spelled so.
+    ensures found { IfOk result (λ x. IsHeader x.0 x.1 × (payload.now ≡ header_spelling x.0 x.1)) }
+
+    // What is spelled so is read, unless memory runs out.
+    ensures only { (size : ℕ) (props : Properties) → IsHeader size props
+        → payload.now ≡ header_spelling size props → Gives (λ x. x) result (Ok (size, props)) }
+
+    // Which fault it is: the first from left to right.
+    ensures exact { Gives (λ x. (x.0, values_of x.1)) result (header_at payload.now) }
+{
+    header_of(alloc, payload)
 }
