@@ -76,3 +76,65 @@ fn put_long(number: &Option<u64>, out: &mut Vec<u8>) -> Result<(), AllocError>
         None => Ok(()),
     }
 }
+
+/// What writes a property of a kind.
+macro_rules! put_kind {
+    (ShortString $value:expr, $out:expr) => {
+        put_text($value, $out)
+    };
+    (Table $value:expr, $out:expr) => {
+        put_table($value, $out)
+    };
+    (Octet $value:expr, $out:expr) => {
+        put_octet($value, $out)
+    };
+    (LongLong $value:expr, $out:expr) => {
+        put_long($value, $out)
+    };
+}
+
+/// Writes each property after the other.
+macro_rules! put_each {
+    ([$props:ident $out:ident] $($field:ident $place:literal $bit:literal $kind:ident $name:literal,)*) => {{
+        $(put_kind!($kind &$props.$field, $out)?;)*
+        Ok(())
+    }};
+}
+
+#[tactic(auto, unfolding(crate::specs::ContentHeader::values_of))]
+fn put_properties(props: &Properties, out: &mut Vec<u8>) -> Result<(), AllocError>
+    requires { AreShort props.now }
+    ensures { OnOk result (HaveSpelling (values_of props.now)
+        × (out.new.items ≡ out.old.items ++ values_spelling (values_of props.now))) }
+{
+    with_properties!(put_each props out)
+}
+
+#[tactic(auto, unfolding(crate::specs::ContentHeader::payload_of))]
+fn put_header(size: u64, props: &Properties, out: &mut Vec<u8>) -> Result<(), AllocError>
+    requires { AreShort props.now }
+    ensures { OnOk result (IsHeader size props.now
+        × (out.new.items ≡ out.old.items ++ header_spelling size props.now)) }
+{
+    out.extend_from_slice(&60u16.to_be_bytes())?;
+    out.extend_from_slice(&0u16.to_be_bytes())?;
+    out.extend_from_slice(&size.to_be_bytes())?;
+    out.extend_from_slice(&flags_of(props).to_be_bytes())?;
+    put_properties(props, out)?;
+    Ok(())
+}
+
+/// Appends the one spelling of the content header of a body of `size` octets with these properties; after an error
+/// `out` is as it was. `read_header` reads it back whole.
+///
+/// The octets are made apart, in one pass, and then appended. AMQP 0-9-1, 4.2.6.1 "The Content Header".
+pub fn write_header(size: u64, props: &Properties, out: &mut Vec<u8>) -> Result<(), AllocError>
+    requires { AreShort props.now }
+    ensures ok { OnOk result (IsHeader size props.now
+        × (out.new.items ≡ out.old.items ++ header_spelling size props.now)) }
+    ensures err { OnErr result (out.new.items ≡ out.old.items) }
+{
+    let mut octets = Vec::new(*out.allocator());
+    put_header(size, props, &mut octets)?;
+    out.extend_from_slice(&octets)
+}
