@@ -1,3 +1,5 @@
 pub mod Codes
 pub mod ContentHeader
 pub mod HeaderReading
+pub mod Laws
+pub mod Rows

@@ -2,6 +2,7 @@
 #![tactic(auto)]
 
 mod fault;
+mod laws;
 mod link;
 mod message;
 mod properties;
@@ -11,11 +12,17 @@ mod text;
 mod writing;
 
 pub use fault::PropsFault;
+pub use laws::{headers_are_one};
 pub use link::{
     AckMode, DeleteAfter, ExchangeKind, LinkKind, LinkSpec, Place, QueueOptions, SourceAt,
     StartState, TargetAt,
 };
 pub use message::Message;
 pub use properties::Properties;
-pub use row::{PROPERTIES, PropertyKind, Row};
+pub use reading::read_header;
+pub use row::{PROPERTIES, PropertyKind, Row, property};
 pub use text::{FieldTable, Octets, Text};
+pub use writing::write_header;
+
+#[cfg(test)]
+mod tests;

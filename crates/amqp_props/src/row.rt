@@ -1,5 +1,9 @@
 //! The 14 properties in their order (AMQP 0-9-1, class basic), each with its bit, its kind and its name.
 
+ghost use Rattle.std.specs.Prelude.{◌≡◌, option_map, slice_get};
+ghost use Rattle.amqp_props.specs.ContentHeader.{property_rows};
+ghost use Rattle.amqp_props.specs.Rows.{row_view};
+
 /// The kind of a property's value (AMQP 0-9-1, 4.2.5 "Data Formats").
 #[derive(Clone, Copy, Debug, PartialEq, Eq)]
 pub enum PropertyKind {
@@ -57,3 +61,10 @@ macro_rules! rows {
 
 /// The 14 properties in their order.
 pub const PROPERTIES: [Row; 14] = with_properties!(rows);
+
+/// The property at that place; `None` exactly where there is none.
+pub fn property(place: usize) -> Option<Row>
+    ensures { option_map row_view result ≡ slice_get property_rows place }
+{
+    PROPERTIES.get(place).copied()
+}
