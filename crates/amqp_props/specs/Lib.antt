@@ -3,3 +3,4 @@ pub mod ContentHeader
 pub mod HeaderReading
 pub mod Laws
 pub mod Rows
+pub mod Same

@@ -125,7 +125,7 @@ pub enum TargetAt {
 }
 
 /// The description of a link.
-#[derive(Debug, Drop)]
+#[derive(Debug, Drop, PartialEq, Eq)]
 pub struct LinkSpec {
     /// The name, which is its identity.
     pub name: Text,

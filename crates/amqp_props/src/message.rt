@@ -1,5 +1,7 @@
 //! What a publisher sends.
-ghost use Rattle.std.specs.Prelude.{◌≡◌};
+ghost use Rattle.std.specs.Prelude.{◌≡◌, ◌↔◌, IsTrue};
+ghost use Rattle.std.specs.Cmp.{partial_equiv_from_equiv};
+ghost use Rattle.amqp_props.specs.Same.{same_message, message_laws};
 
 use crate::properties::Properties;
 use crate::text::{Octets, Text};
@@ -33,4 +35,25 @@ impl Clone for Message {
             body,
         })
     }
+}
+
+impl PartialEq for Message {
+    ghost eq = { same_message };
+
+    ghost laws = { partial_equiv_from_equiv message_laws };
+
+    #[tactic(auto, unfolding(crate::specs::Same::same_message))]
+    fn eq(&self, other: &Message) -> bool
+        ensures tested { result ≡ same_message self.now other.now }
+        ensures same { IsTrue result ↔ (self.now ≡ other.now) }
+    {
+        self.exchange == other.exchange
+            && self.key == other.key
+            && self.props == other.props
+            && self.body == other.body
+    }
+}
+
+impl Eq for Message {
+    ghost laws = { message_laws };
 }

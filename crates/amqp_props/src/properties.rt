@@ -1,7 +1,9 @@
 //! The properties of a message.
-ghost use Rattle.std.specs.Prelude.{◌≡◌};
+ghost use Rattle.std.specs.Prelude.{◌≡◌, ◌↔◌, IsTrue};
+ghost use Rattle.std.specs.Cmp.{partial_equiv_from_equiv};
+ghost use Rattle.amqp_props.specs.Same.{same_number, same_properties, properties_laws};
 
-use crate::text::{FieldTable, Text, copy_table, copy_text};
+use crate::text::{FieldTable, Text, copy_table, copy_text, same_table, same_text};
 use std::alloc::AllocError;
 
 /// The properties of a message, each of which may be absent (AMQP 0-9-1, class basic).
@@ -58,4 +60,42 @@ impl Clone for Properties {
             reserved: copy_text(&self.reserved)?,
         })
     }
+}
+
+/// Whether each property is absent in both, or has one value in both.
+#[tactic(auto, unfolding(crate::specs::Same::same_properties))]
+fn are_same(one: &Properties, other: &Properties) -> bool
+    ensures { result ≡ same_properties one.now other.now }
+{
+    same_text(&one.content_type, &other.content_type)
+        && same_text(&one.content_encoding, &other.content_encoding)
+        && same_table(&one.headers, &other.headers)
+        && one.delivery_mode == other.delivery_mode
+        && one.priority == other.priority
+        && same_text(&one.correlation_id, &other.correlation_id)
+        && same_text(&one.reply_to, &other.reply_to)
+        && same_text(&one.expiration, &other.expiration)
+        && same_text(&one.message_id, &other.message_id)
+        && one.timestamp == other.timestamp
+        && same_text(&one.type_name, &other.type_name)
+        && same_text(&one.user_id, &other.user_id)
+        && same_text(&one.app_id, &other.app_id)
+        && same_text(&one.reserved, &other.reserved)
+}
+
+impl PartialEq for Properties {
+    ghost eq = { same_properties };
+
+    ghost laws = { partial_equiv_from_equiv properties_laws };
+
+    fn eq(&self, other: &Properties) -> bool
+        ensures tested { result ≡ same_properties self.now other.now }
+        ensures same { IsTrue result ↔ (self.now ≡ other.now) }
+    {
+        are_same(self, other)
+    }
+}
+
+impl Eq for Properties {
+    ghost laws = { properties_laws };
 }

@@ -1,9 +1,13 @@
 //! Texts, octets and field tables, which contracts see as lists and pairs without where they lie in memory.
-ghost use Rattle.std.specs.Prelude.{◌≡◌, List, ℕ, IfOk, string_bytes, nat_eq};
+ghost use Rattle.std.specs.Prelude.{◌≡◌, ◌↔◌, IsTrue, List, ℕ, IfOk, string_bytes, nat_eq};
 ghost use Rattle.std.specs.Cmp.Lexicographic.{pointwise};
 ghost use Rattle.std.specs.Cmp.Rules.{comparing};
 ghost use Rattle.std.proofs.Common.{rules};
+ghost use Rattle.std.specs.Cmp.{partial_equiv_from_equiv};
+ghost use Rattle.field_tables.specs.Same.{same_pairs};
+ghost use Rattle.field_tables.specs.SameLaws.{one_table_laws};
 ghost use Rattle.field_tables.specs.View.{table_view};
+ghost use Rattle.amqp_props.specs.Same.{same_text, same_table};
 
 use field_tables::Table;
 use std::alloc::{AllocError, Global};
@@ -134,7 +138,10 @@ pub struct FieldTable {
 impl Model for FieldTable {
     ghost use Rattle.field_tables.specs.Fields.{Pairs};
     ghost use Rattle.amqp_props.specs.Codes.{coded_pairs};
-    ghost use Rattle.field_tables.specs.View.{table_view};
+    ghost use Rattle.std.specs.Cmp.{partial_equiv_from_equiv};
+ghost use Rattle.field_tables.specs.Same.{same_pairs};
+ghost use Rattle.field_tables.specs.SameLaws.{one_table_laws};
+ghost use Rattle.field_tables.specs.View.{table_view};
 
     ghost Value = { Pairs };
 
@@ -168,6 +175,23 @@ impl Clone for FieldTable {
     }
 }
 
+impl PartialEq for FieldTable {
+    ghost eq = { same_pairs };
+
+    ghost laws = { partial_equiv_from_equiv one_table_laws };
+
+    fn eq(&self, other: &FieldTable) -> bool
+        ensures tested { result ≡ same_pairs self.now other.now }
+        ensures same { IsTrue result ↔ (self.now ≡ other.now) }
+    {
+        self.inner == other.inner
+    }
+}
+
+impl Eq for FieldTable {
+    ghost laws = { one_table_laws };
+}
+
 /// A copy of a text that may be absent.
 pub(crate) fn copy_text(text: &Option<Text>) -> Result<Option<Text>, AllocError>
     ensures { IfOk result (λ copy. copy ≡ text.now) }
@@ -185,5 +209,27 @@ pub(crate) fn copy_table(table: &Option<FieldTable>) -> Result<Option<FieldTable
     match table {
         Some(table) => Ok(Some(table.clone()?)),
         None => Ok(None),
+    }
+}
+
+/// Whether two texts that may be absent are the same.
+pub(crate) fn same_text(one: &Option<Text>, other: &Option<Text>) -> bool
+    ensures { result ≡ same_text one.now other.now }
+{
+    match (one, other) {
+        (Some(one), Some(other)) => *one == *other,
+        (None, None) => true,
+        _ => false,
+    }
+}
+
+/// Whether two field tables that may be absent are the same.
+pub(crate) fn same_table(one: &Option<FieldTable>, other: &Option<FieldTable>) -> bool
+    ensures { result ≡ same_table one.now other.now }
+{
+    match (one, other) {
+        (Some(one), Some(other)) => *one == *other,
+        (None, None) => true,
+        _ => false,
     }
 }
