@@ -111,8 +111,8 @@ properties_take flags place b (row ∷ rows) octets x are bits e =
     let behind : IsBytes first.0.1 = counted_text first.0.1 (optional_spelling first.0.0) (subst IsBytes t.0.parts are) in
     let u = properties_take flags (suc place) row.0 rows first.0.1 others.0 behind bits.1 others.1 in
     let summed : flags_of (row ∷ rows) (first.0.0 ∷ others.0.0) + flags % 4 ≡ flags % 2 ^ b =
-        (let term : cond (is_some first.0.0) (2 ^ row.0) 0 ≡ bit_at flags row.0 * 2 ^ row.0 = flag_term first.0.0 (2 ^ row.0) ∙ ap (λ d. d * 2 ^ row.0) (sym t.1) in
-         omega (arith, term, u.flags_are, high_bit flags b row.0 bits.0)) in
+    (let term : cond (is_some first.0.0) (2 ^ row.0) 0 ≡ bit_at flags row.0 * 2 ^ row.0 = flag_term first.0.0 (2 ^ row.0) ∙ ap (λ d. d * 2 ^ row.0) (sym t.1) in
+    omega (arith, term, u.flags_are, high_bit flags b row.0 bits.0)) in
     subst (AreRead flags b (row ∷ rows) octets) (ok_is (first.0.0 ∷ others.0.0, others.0.1) x others.2) (record {
       parts = t.0.parts ∙ ap (λ (rest : List ℕ). optional_spelling first.0.0 ++ rest) u.parts ∙ sym (append_assoc (optional_spelling first.0.0) (values_spelling others.0.0) others.0.1);
       fit = (t.0.fits, u.fit);
@@ -132,8 +132,8 @@ properties_again flags place b [] [] rest bits kinds fit e = refl
 properties_again flags place b (row ∷ rows) (value ∷ values) rest bits kinds fit e =
     let below : flags_of rows values + 4 ≤ 2 ^ row.0 = flags_below row.0 rows values bits.1 in
     let both : (bit_at flags row.0 ≡ flag value) × (flags % 2 ^ row.0 ≡ flags_of rows values) =
-        digits (bit_at flags row.0) (flag value) (2 ^ row.0) (flags % 2 ^ row.0) (flags_of rows values) (bit_at-lt flags row.0) (flag_bound value) (mod_below flags (2 ^ row.0) (omega arith)) (omega arith)
-        (sym (high_bit flags b row.0 bits.0) ∙ e ∙ ap (λ n. n + flags_of rows values) (flag_term value (2 ^ row.0))) in
+    digits (bit_at flags row.0) (flag value) (2 ^ row.0) (flags % 2 ^ row.0) (flags_of rows values) (bit_at-lt flags row.0) (flag_bound value) (mod_below flags (2 ^ row.0) (omega arith)) (omega arith)
+    (sym (high_bit flags b row.0 bits.0) ∙ e ∙ ap (λ n. n + flags_of rows values) (flag_term value (2 ^ row.0))) in
     let first = property_again flags place row.0 row.1 value (values_spelling values ++ rest) both.0 kinds.0 fit.0 in
     let others = properties_again flags (suc place) row.0 rows values rest bits.1 kinds.1 fit.1 both.1 in
     rw (append_assoc (optional_spelling value) (values_spelling values) rest, first, others) refl
@@ -273,9 +273,28 @@ longlongs_kind (Some n) = refl
 
 kinds_of : (props : Properties) → OfKinds property_rows (values_of props)
 unfolding values_of
-kinds_of p =
-    (texts_kind p.content_type, (texts_kind p.content_encoding, (tables_kind p.headers, (octets_kind p.delivery_mode, (octets_kind p.priority, (texts_kind p.correlation_id, (texts_kind p.reply_to,
-    (texts_kind p.expiration, (texts_kind p.message_id, (longlongs_kind p.timestamp, (texts_kind p.type_name, (texts_kind p.user_id, (texts_kind p.app_id, (texts_kind p.reserved, tt))))))))))))))
+kinds_of p = (
+  texts_kind p.content_type,
+  (
+    texts_kind p.content_encoding,
+    (
+      tables_kind p.headers,
+      (
+        octets_kind p.delivery_mode,
+        (
+          octets_kind p.priority,
+          (
+            texts_kind p.correlation_id,
+            (
+              texts_kind p.reply_to,
+              (texts_kind p.expiration, (texts_kind p.message_id, (longlongs_kind p.timestamp, (texts_kind p.type_name, (texts_kind p.user_id, (texts_kind p.app_id, (texts_kind p.reserved, tt))))))),
+            ),
+          ),
+        ),
+      ),
+    ),
+  ),
+)
 
 abbrev text_in : Option Value → Option (List ℕ)
 text_in (Some (short_string text)) = Some text

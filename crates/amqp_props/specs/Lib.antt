@@ -4,3 +4,4 @@ pub mod HeaderReading
 pub mod Laws
 pub mod Rows
 pub mod Same
+pub mod SameLinks

@@ -12,7 +12,7 @@ mod text;
 mod writing;
 
 pub use fault::PropsFault;
-pub use laws::{headers_are_one};
+pub use laws::headers_are_one;
 pub use link::{
     AckMode, DeleteAfter, ExchangeKind, LinkKind, LinkSpec, Place, QueueOptions, SourceAt,
     StartState, TargetAt,

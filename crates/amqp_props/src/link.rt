@@ -1,5 +1,7 @@
 //! A link between two brokers, as its configuration describes it.
-ghost use Rattle.std.specs.Prelude.{◌≡◌, IfOk};
+ghost use Rattle.std.specs.Prelude.{◌≡◌, ◌↔◌, IfOk, IsTrue};
+ghost use Rattle.std.specs.Cmp.{partial_equiv_from_equiv};
+ghost use Rattle.amqp_props.specs.SameLinks.{same_link, link_laws};
 
 use crate::properties::Properties;
 use crate::text::{Text, copy_text};
@@ -125,7 +127,7 @@ pub enum TargetAt {
 }
 
 /// The description of a link.
-#[derive(Debug, Drop, PartialEq, Eq)]
+#[derive(Debug, Drop)]
 pub struct LinkSpec {
     /// The name, which is its identity.
     pub name: Text,
@@ -258,4 +260,66 @@ impl Clone for LinkSpec {
             props,
         })
     }
+}
+
+/// Whether the two links are of one name, kind and place.
+fn is_one_link(one: &LinkSpec, other: &LinkSpec) -> bool
+    ensures { IsTrue result ↔ ((one.now.name ≡ other.now.name) × (one.now.kind ≡ other.now.kind)
+        × (one.now.start ≡ other.now.start) × (one.now.owner ≡ other.now.owner)) }
+{
+    one.name == other.name
+        && one.kind == other.kind
+        && one.start == other.start
+        && one.owner == other.owner
+}
+
+/// Whether the two links go between the same ends.
+fn has_one_way(one: &LinkSpec, other: &LinkSpec) -> bool
+    ensures { IsTrue result ↔ ((one.now.source ≡ other.now.source) × (one.now.target ≡ other.now.target)
+        × (one.now.source_at ≡ other.now.source_at) × (one.now.target_at ≡ other.now.target_at)) }
+{
+    one.source == other.source
+        && one.target == other.target
+        && one.source_at == other.source_at
+        && one.target_at == other.target_at
+}
+
+/// Whether the two links work in the same way.
+fn has_one_mode(one: &LinkSpec, other: &LinkSpec) -> bool
+    ensures { IsTrue result ↔ ((one.now.mode ≡ other.now.mode) × (one.now.prefetch ≡ other.now.prefetch)
+        × (one.now.delay ≡ other.now.delay) × (one.now.max_hops ≡ other.now.max_hops)
+        × (one.now.delete_after ≡ other.now.delete_after) × (one.now.stamp ≡ other.now.stamp)
+        × (one.now.props ≡ other.now.props)) }
+{
+    one.mode == other.mode
+        && one.prefetch == other.prefetch
+        && one.delay == other.delay
+        && one.max_hops == other.max_hops
+        && one.delete_after == other.delete_after
+        && one.stamp == other.stamp
+        && one.props == other.props
+}
+
+/// Whether all parts of the two links are the same.
+fn are_same(one: &LinkSpec, other: &LinkSpec) -> bool
+    ensures { IsTrue result ↔ (one.now ≡ other.now) }
+{
+    is_one_link(one, other) && has_one_way(one, other) && has_one_mode(one, other)
+}
+
+impl PartialEq for LinkSpec {
+    ghost eq = { same_link };
+
+    ghost laws = { partial_equiv_from_equiv link_laws };
+
+    fn eq(&self, other: &LinkSpec) -> bool
+        ensures tested { result ≡ same_link self.now other.now }
+        ensures same { IsTrue result ↔ (self.now ≡ other.now) }
+    {
+        are_same(self, other)
+    }
+}
+
+impl Eq for LinkSpec {
+    ghost laws = { link_laws };
 }

@@ -139,9 +139,9 @@ impl Model for FieldTable {
     ghost use Rattle.field_tables.specs.Fields.{Pairs};
     ghost use Rattle.amqp_props.specs.Codes.{coded_pairs};
     ghost use Rattle.std.specs.Cmp.{partial_equiv_from_equiv};
-ghost use Rattle.field_tables.specs.Same.{same_pairs};
-ghost use Rattle.field_tables.specs.SameLaws.{one_table_laws};
-ghost use Rattle.field_tables.specs.View.{table_view};
+    ghost use Rattle.field_tables.specs.Same.{same_pairs};
+    ghost use Rattle.field_tables.specs.SameLaws.{one_table_laws};
+    ghost use Rattle.field_tables.specs.View.{table_view};
 
     ghost Value = { Pairs };
 

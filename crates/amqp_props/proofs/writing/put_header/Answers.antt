@@ -23,13 +23,12 @@ returns c =
     let three = c.extend_from_slice-3.new.self.items in
     let four = c.extend_from_slice-4.new.self.items in
     let flags = flags_of property_rows (values_of c.args.props.now) in
-    let flags_are = c.to_be_bytes-4.ensures ∙ ap (to_be_bytes w16) c.flags_of.ensures in
-    (
+    let flags_are = c.to_be_bytes-4.ensures ∙ ap (to_be_bytes w16) c.flags_of.ensures in (
       record { size_fits = omega arith; values_fit = c.in_ok-put_properties.ensures.0 },
       put_parts old one two three four c.put_properties.new.out.items (to_be_bytes w16 60) (to_be_bytes w16 0) (to_be_bytes w64 c.args.size) (to_be_bytes w16 flags) (values_spelling (values_of c.args.props.now))
-      (c.in_ok-extend_from_slice.ensures.items ∙ ap (λ (part : List ℕ). old ++ part) c.to_be_bytes.ensures)
-      (c.in_ok-extend_from_slice-2.ensures.items ∙ ap (λ (part : List ℕ). one ++ part) c.to_be_bytes-2.ensures)
-      (c.in_ok-extend_from_slice-3.ensures.items ∙ ap (λ (part : List ℕ). two ++ part) c.to_be_bytes-3.ensures)
-      (c.in_ok-extend_from_slice-4.ensures.items ∙ ap (λ (part : List ℕ). three ++ part) flags_are)
-      c.in_ok-put_properties.ensures.1
+          (c.in_ok-extend_from_slice.ensures.items ∙ ap (λ (part : List ℕ). old ++ part) c.to_be_bytes.ensures)
+          (c.in_ok-extend_from_slice-2.ensures.items ∙ ap (λ (part : List ℕ). one ++ part) c.to_be_bytes-2.ensures)
+          (c.in_ok-extend_from_slice-3.ensures.items ∙ ap (λ (part : List ℕ). two ++ part) c.to_be_bytes-3.ensures)
+          (c.in_ok-extend_from_slice-4.ensures.items ∙ ap (λ (part : List ℕ). three ++ part) flags_are)
+          c.in_ok-put_properties.ensures.1,
     )

@@ -30,17 +30,17 @@ returns c =
     let after_headers = option_map octet p.delivery_mode ∷ after_delivery_mode in
     let after_content_encoding = option_map field_table p.headers ∷ after_headers in
     let after_content_type = option_map short_string p.content_encoding ∷ after_content_encoding in
-    put_next _ _ _ _ after_content_type c.in_ok-put_text.ensures 
-    (put_next _ _ _ _ after_content_encoding c.in_ok-put_text-2.ensures 
-    (put_next _ _ _ _ after_headers c.in_ok-put_table.ensures 
-    (put_next _ _ _ _ after_delivery_mode c.in_ok-put_octet.ensures 
-    (put_next _ _ _ _ after_priority c.in_ok-put_octet-2.ensures 
-    (put_next _ _ _ _ after_correlation_id c.in_ok-put_text-3.ensures 
-    (put_next _ _ _ _ after_reply_to c.in_ok-put_text-4.ensures 
-    (put_next _ _ _ _ after_expiration c.in_ok-put_text-5.ensures 
-    (put_next _ _ _ _ after_message_id c.in_ok-put_text-6.ensures 
-    (put_next _ _ _ _ after_timestamp c.in_ok-put_long.ensures 
-    (put_next _ _ _ _ after_type_name c.in_ok-put_text-7.ensures 
-    (put_next _ _ _ _ after_user_id c.in_ok-put_text-8.ensures 
-    (put_next _ _ _ _ after_app_id c.in_ok-put_text-9.ensures 
+    put_next _ _ _ _ after_content_type c.in_ok-put_text.ensures
+    (put_next _ _ _ _ after_content_encoding c.in_ok-put_text-2.ensures
+    (put_next _ _ _ _ after_headers c.in_ok-put_table.ensures
+    (put_next _ _ _ _ after_delivery_mode c.in_ok-put_octet.ensures
+    (put_next _ _ _ _ after_priority c.in_ok-put_octet-2.ensures
+    (put_next _ _ _ _ after_correlation_id c.in_ok-put_text-3.ensures
+    (put_next _ _ _ _ after_reply_to c.in_ok-put_text-4.ensures
+    (put_next _ _ _ _ after_expiration c.in_ok-put_text-5.ensures
+    (put_next _ _ _ _ after_message_id c.in_ok-put_text-6.ensures
+    (put_next _ _ _ _ after_timestamp c.in_ok-put_long.ensures
+    (put_next _ _ _ _ after_type_name c.in_ok-put_text-7.ensures
+    (put_next _ _ _ _ after_user_id c.in_ok-put_text-8.ensures
+    (put_next _ _ _ _ after_app_id c.in_ok-put_text-9.ensures
     (put_next _ _ _ _ after_reserved c.in_ok-put_text-10.ensures (put_end _))))))))))))))
