@@ -1,9 +1,8 @@
 -- A whole content header: what is read is spelled so, and what is spelled so is read.
-use Rattle.std.proofs.Common.{◌≡◌, ℕ, zero, suc, ◌+◌, ◌*◌, ◌/◌, ◌%◌, ◌^◌, ◌<◌, ◌≤◌, Bool, true, false, cond, ltb, eqb, List, [], ◌∷◌, ◌++◌, length, get_or, take, drop, Option, Some, None, is_some, option_map, Result, Ok, Err, IfSome, IfOk, refl, sym, ap, subst, ◌∙◌, append_assoc, arith}
-use Rattle.std.specs.Int.{Width, w16, w64, byte_len, from_be_bytes, to_be_bytes, bit_at}
-use Rattle.std.specs.List.{AllByRecursion}
+use Rattle.std.proofs.Common.{◌≡◌, ℕ, zero, suc, ◌+◌, ◌*◌, ◌%◌, ◌^◌, ◌<◌, ◌≤◌, Bool, true, false, cond, ltb, eqb, List, [], ◌∷◌, ◌++◌, length, take, drop, Option, Some, None, is_some, option_map, Result, Ok, Err, IfSome, IfOk, refl, sym, ap, subst, ◌∙◌, append_assoc, arith}
+use Rattle.std.specs.Int.{Width, w16, w64, byte_len, to_be_bytes, bit_at}
 use Rattle.std.proofs.lemmas.Bool.{ltb-false, le-ltb, eqb-true}
-use Rattle.std.proofs.lemmas.List.{take_at, drop_at, take-append-drop, length-append, length-take, length-drop, get_or-drop, drop-drop, append-nil}
+use Rattle.std.proofs.lemmas.List.{take-append-drop, length-take, length-drop, get_or-drop, drop-drop, append-nil}
 use Rattle.std.proofs.lemmas.Nat.{mod-pow-add, mod_below, from_be_bytes-to_be_bytes_2, from_be_bytes-to_be_bytes_8}
 use Rattle.std.proofs.lemmas.Nat.Bits.{bit_at-lt}
 use Rattle.std.proofs.Math.Nat.{pow-suc}
@@ -15,9 +14,9 @@ use Rattle.amqp_props.specs.declared.row.PropertyKind.TheVariants.{ShortString, 
 use Rattle.amqp_props.specs.declared.fault.PropsFault.{PropsFault}
 use Rattle.amqp_props.specs.declared.fault.PropsFault.TheVariants.{Short, Class, Weight, Flags, Field, Trailing, Memory}
 use Rattle.amqp_props.specs.declared.properties.Properties.{Properties}
-use Rattle.amqp_props.specs.ContentHeader.{property_rows, Value, short_string, field_table, octet, longlong, kind_of, HasSpelling, HaveSpelling, optional_spelling, values_of, flags_of, values_spelling, payload_of, header_spelling, IsHeader, IsShort, AreShort}
-use Rattle.amqp_props.specs.HeaderReading.{◌>>=◌, Gives, Fails, property_at, properties_at, number_at, fixed_at, ended_at, header_at}
-use Rattle.amqp_props.proofs.Parts.{ok_is, IsRead, flag, property_takes, OfKind, property_again}
+use Rattle.amqp_props.specs.ContentHeader.{property_rows, Value, short_string, field_table, octet, longlong, HasSpelling, HaveSpelling, optional_spelling, values_of, flags_of, values_spelling, payload_of, header_spelling, IsHeader, IsShort, AreShort}
+use Rattle.amqp_props.specs.HeaderReading.{◌>>=◌, Gives, property_at, properties_at, number_at, fixed_at, ended_at, header_at}
+use Rattle.amqp_props.proofs.Parts.{ok_is, flag, property_takes, OfKind, property_again}
 
 abbrev Row : Type 0
 Row = ℕ × PropertyKind × List ℕ
