@@ -1,3 +1,4 @@
 pub mod HopLemmas
 pub mod Loops
+pub mod Steps
 pub mod Views

@@ -3,12 +3,13 @@
 use Rattle.std.specs.Prelude.{ℕ, ℤ, pos, negsuc, ◌-◌, min, nat_le, Bool, true, false, not, List, [], ◌∷◌, ◌++◌, length, filter, Option, Some, None, option_map, option_and_then, is_some, unwrap_or, if◌then◌else◌}
 use Rattle.std.specs.List.{list_any, list_all, filter_map}
 use Rattle.std.specs.Str.{bytes_eq}
-use Rattle.field_tables.specs.Fields.{Field, signed_long, long_string, array, table, Pairs, no_pairs, pair, first_of}
+use Rattle.field_tables.specs.Fields.{Field, signed_long, long_string, array, table, Pairs, first_of}
 use Rattle.field_tables.specs.View.{fields_of, pairs_of}
 use Rattle.field_tables.specs.Tables.{table_spelling}
 use Rattle.hop_headers.specs.declared.entry.PlaceName.{PlaceName}
-use Rattle.hop_headers.specs.Names.{bound_from_name, cluster_name, vhost_name, exchange_name, hops_name}
+use Rattle.hop_headers.specs.Names.{bound_from_name, exchange_name, hops_name}
 use Rattle.hop_headers.specs.Hops.{named_values, text_at, array_at, table_of, place_at, same_place}
+use Rattle.hop_headers.specs.Stamps.{named_object}
 
 -- One entry of an `x-bound-from`: a downstream place and exchange, and the hops that are left.
 pub record BoundEntry : Type 0 where
@@ -71,9 +72,7 @@ has_passed upstream es = list_any (λ e. same_place upstream e.place) es
 
 -- The new entry: the downstream place and exchange, and the hops.
 unfoldable pub bound_entry : PlaceName → List ℕ → ℕ → Pairs
-bound_entry downstream exchange hops =
-    pair cluster_name (long_string downstream.cluster) (pair vhost_name (long_string downstream.vhost)
-    (pair exchange_name (long_string exchange) (pair hops_name (signed_long (pos hops)) no_pairs)))
+bound_entry downstream exchange hops = pairs_of (named_object downstream exchange_name exchange ++ (hops_name, signed_long (pos hops)) ∷ [])
 
 abbrev pub is_other : List ℕ → (List ℕ × Field) → Bool
 is_other name p = not (bytes_eq p.0 name)

@@ -6,10 +6,12 @@ mod gate;
 mod hops;
 mod names;
 mod pairs;
+mod stamps;
 mod text;
 mod values;
 
 pub use entry::{HopEntry, HopObject, PlaceName};
 pub use gate::gate_passes;
 pub use hops::received_from;
+pub use stamps::{stamp_exchange, stamp_queue};
 pub use text::Text;

@@ -81,8 +81,31 @@ fn index_of(name: FieldName, pairs: &[(String, FieldValue)]) -> Option<usize>
     None
 }
 
+/// Adds copies of the names and values, where the first of a name takes the value, or it comes last.
+fn put_first(
+    name: FieldName,
+    value: FieldValue,
+    from: &[(String, FieldValue)],
+    to: &mut Pairs,
+) -> Result<(), AllocError>
+    ensures { OnOk result (pairs_view to.new.items ≡ pairs_view to.old.items
+        ++ set_first (name_text name) (field_view value) (pairs_view from.now)) }
+{
+    match index_of(name, from) {
+        Some(i) => {
+            copy_pairs(&from[..i], to)?;
+            put(name, value, to)?;
+            copy_pairs(&from[i + 1..], to)
+        }
+        None => {
+            copy_pairs(from, to)?;
+            put(name, value, to)
+        }
+    }
+}
+
 /// The table with a value under a name: the first of that name takes it where it stands, else it comes last.
-#[tactic(auto, unfolding(crate::specs::Stamps::with_header))]
+#[tactic(auto, unfolding(crate::specs::Stamps::with_header), using(crate::proofs::Steps::listed))]
 pub(crate) fn with_header(
     alloc: Global,
     headers: &Table,
@@ -93,17 +116,6 @@ pub(crate) fn with_header(
         ≡ table_with_header (name_text name) (field_view value) (table_view headers.now)) }
 {
     let mut pairs = Vec::with_capacity(alloc, headers.pairs.len())?;
-    match index_of(name, &headers.pairs) {
-        Some(i) => {
-            copy_pairs(&headers.pairs[..i], &mut pairs)?;
-            put(name, value, &mut pairs)?;
-            copy_pairs(&headers.pairs[i + 1..], &mut pairs)?;
-            Ok(Table { pairs })
-        }
-        None => {
-            copy_pairs(&headers.pairs, &mut pairs)?;
-            put(name, value, &mut pairs)?;
-            Ok(Table { pairs })
-        }
-    }
+    put_first(name, value, headers.pairs.as_slice(), &mut pairs)?;
+    Ok(Table { pairs })
 }
