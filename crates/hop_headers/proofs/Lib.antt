@@ -1,4 +1,5 @@
 pub mod HopLemmas
 pub mod Loops
+pub mod RoomLemmas
 pub mod Steps
 pub mod Views

@@ -22,18 +22,21 @@ abbrev pub long_of : Field → Option ℤ
 long_of (signed_long n) = Some n
 long_of _ = None
 
+abbrev pub hops_at : Pairs → Option ℤ
+hops_at ps = option_and_then long_of (first_of hops_name ps)
+
 abbrev pub bound_with : Option PlaceName → Option (List ℕ) → Option ℤ → Option BoundEntry
 bound_with (Some place) (Some exchange) (Some hops) = Some record { place = place; exchange = exchange; hops = hops }
 bound_with _ _ _ = None
 
 -- The entry that a table is, if it has texts `cluster-name`, `vhost` and `exchange`, and `hops` of kind I.
 unfoldable pub bound_at : Pairs → Option BoundEntry
-bound_at ps = bound_with (place_at ps) (text_at exchange_name ps) (option_and_then long_of (first_of hops_name ps))
+bound_at ps = bound_with (place_at ps) (text_at exchange_name ps) (hops_at ps)
 
 abbrev pub bound_of : Field → Option BoundEntry
 bound_of v = option_and_then bound_at (table_of v)
 
-abbrev pub is_bound : Field → Bool
+unfoldable pub is_bound : Field → Bool
 is_bound v = is_some (bound_of v)
 
 -- An argument is well-formed if it is an array that has an entry, and all its values are entries.
@@ -48,9 +51,16 @@ if_chain vs = if is_chain vs then Some vs else None
 unfoldable pub chain : Pairs → Option (List Field)
 chain args = option_and_then if_chain (array_at bound_from_name args)
 
--- Its entries, the last downstream place first.
+-- Its entries, the last downstream place first; None where it counts as none.
 abbrev pub bound_from : Pairs → Option (List BoundEntry)
 bound_from args = option_map (filter_map bound_of) (chain args)
+
+-- The values and the entries that the arguments bring; a malformed argument brings none.
+abbrev pub kept_chain : Pairs → List Field
+kept_chain args = unwrap_or (chain args) []
+
+abbrev pub bound_entries : Pairs → List BoundEntry
+bound_entries args = filter_map bound_of (kept_chain args)
 
 -- One hop less; a negative number leaves none.
 abbrev pub one_less : ℤ → ℕ
@@ -58,13 +68,16 @@ one_less (pos n) = n - 1
 one_less (negsuc n) = 0
 
 -- The hops of the new entry: one less than the first entry has, and no more than the link allows.
-abbrev pub hops_left : Option (List BoundEntry) → ℕ → ℕ
-hops_left (Some (e ∷ es)) most = min (one_less e.hops) most
-hops_left _ most = most
+abbrev pub hops_left : List BoundEntry → ℕ → ℕ
+hops_left [] most = most
+hops_left (e ∷ es) most = min (one_less e.hops) most
 
 -- There are none where fewer than 1 is left.
-unfoldable pub new_hops : Option (List BoundEntry) → ℕ → Option ℕ
-new_hops es most = let n = hops_left es most in if nat_le 1 n then Some n else None
+abbrev pub if_left : ℕ → Option ℕ
+if_left n = if nat_le 1 n then Some n else None
+
+unfoldable pub new_hops : List BoundEntry → ℕ → Option ℕ
+new_hops es most = if_left (hops_left es most)
 
 -- The key came through the place already; a malformed argument names no place.
 unfoldable pub has_passed : PlaceName → List BoundEntry → Bool
@@ -80,7 +93,7 @@ is_other name p = not (bytes_eq p.0 name)
 -- The arguments without any `x-bound-from`, and a new one last: the new entry, and behind it the entries that it had.
 unfoldable pub bound_on : Pairs → PlaceName → List ℕ → ℕ → Pairs
 bound_on args downstream exchange hops = pairs_of (filter (is_other bound_from_name) (named_values args)
-    ++ (bound_from_name, array (fields_of (table (bound_entry downstream exchange hops) ∷ unwrap_or (chain args) []))) ∷ [])
+    ++ (bound_from_name, array (fields_of (table (bound_entry downstream exchange hops) ∷ kept_chain args))) ∷ [])
 
 -- The octets that an argument table may have, so that each binding command fits one frame.
 abbrev pub max_arguments : ℕ
@@ -94,5 +107,5 @@ if_short args = if is_short args then Some args else None
 
 -- The arguments of the upstream binding, or None where the binding goes no further.
 unfoldable pub propagated : Pairs → PlaceName → PlaceName → List ℕ → ℕ → Option Pairs
-propagated args upstream downstream exchange most = if has_passed upstream (unwrap_or (bound_from args) []) then None else
-    option_and_then (λ hops. if_short (bound_on args downstream exchange hops)) (new_hops (bound_from args) most)
+propagated args upstream downstream exchange most = if has_passed upstream (bound_entries args) then None else
+    option_and_then (λ hops. if_short (bound_on args downstream exchange hops)) (new_hops (bound_entries args) most)

@@ -21,7 +21,8 @@ pub(crate) fn is_at(wanted: PlaceTexts, value: &FieldValue) -> bool
     }
 }
 
-fn has_been_at(wanted: PlaceTexts, values: &[FieldValue]) -> bool
+/// Whether one of the values names the place.
+pub(crate) fn has_been_at(wanted: PlaceTexts, values: &[FieldValue]) -> bool
     ensures { result ≡ list_any (is_at_place (place wanted.entry.cluster.now wanted.entry.vhost.now))
         (fields_view values.now) }
 {

@@ -6,6 +6,8 @@ mod gate;
 mod hops;
 mod names;
 mod pairs;
+mod propagation;
+mod room;
 mod stamps;
 mod text;
 mod values;
