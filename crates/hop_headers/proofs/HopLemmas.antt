@@ -39,7 +39,7 @@ kept_named headers = elim (array_at received_from_name headers) as (λ o. list_a
   | Some vs ↦ if_hops_named vs (list_all names_place vs) refl
 ]
 
-both : (a b : Bool) → (a && b) ≡ true → (a ≡ true) × (b ≡ true)
+pub both : (a b : Bool) → (a && b) ≡ true → (a ≡ true) × (b ≡ true)
 both true b h = (refl, h)
 both false b h = absurd cc
 

@@ -68,16 +68,20 @@ one_less (pos n) = n - 1
 one_less (negsuc n) = 0
 
 -- The hops of the new entry: one less than the first entry has, and no more than the link allows.
-abbrev pub hops_left : List BoundEntry → ℕ → ℕ
-hops_left [] most = most
-hops_left (e ∷ es) most = min (one_less e.hops) most
+abbrev pub first_hops : List BoundEntry → Option ℤ
+first_hops [] = None
+first_hops (e ∷ es) = Some e.hops
+
+abbrev pub hops_left : Option ℤ → ℕ → ℕ
+hops_left None most = most
+hops_left (Some hops) most = min (one_less hops) most
 
 -- There are none where fewer than 1 is left.
 abbrev pub if_left : ℕ → Option ℕ
 if_left n = if nat_le 1 n then Some n else None
 
 unfoldable pub new_hops : List BoundEntry → ℕ → Option ℕ
-new_hops es most = if_left (hops_left es most)
+new_hops es most = if_left (hops_left (first_hops es) most)
 
 -- The key came through the place already; a malformed argument names no place.
 unfoldable pub has_passed : PlaceName → List BoundEntry → Bool

@@ -4,6 +4,7 @@
 mod entry;
 mod gate;
 mod hops;
+mod laws;
 mod names;
 mod pairs;
 mod propagation;
@@ -15,5 +16,7 @@ mod values;
 pub use entry::{HopEntry, HopObject, PlaceName};
 pub use gate::gate_passes;
 pub use hops::received_from;
+pub use laws::{gates_decide, propagation_goes_on, propagation_spells, stamps_name_the_place};
+pub use propagation::propagate;
 pub use stamps::{stamp_exchange, stamp_queue};
 pub use text::Text;

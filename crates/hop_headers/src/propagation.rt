@@ -1,11 +1,11 @@
 //! Bindings that are propagated to the upstream exchange.
 
-ghost use Rattle.std.specs.Prelude.{◌≡◌, ◌<◌, ◌^◌, ◌++◌, ◌∷◌, [], true, IfOk, OnOk, option_map, is_some, filter, if◌then◌else◌};
+ghost use Rattle.std.specs.Prelude.{◌≡◌, ◌<◌, ◌≤◌, ◌^◌, ◌++◌, ◌∷◌, [], true, IfOk, OnOk, IfSome, option_map, is_some, filter, if◌then◌else◌};
 ghost use Rattle.std.specs.List.{list_all, filter_map};
 ghost use Rattle.field_tables.specs.Fields.{table};
 ghost use Rattle.field_tables.specs.View.{field_view, fields_view, pairs_view, pair_view, table_view};
 ghost use Rattle.hop_headers.specs.Names.{name_text};
-ghost use Rattle.hop_headers.specs.Propagation.{BoundEntry, hops_at as hops_of_pairs, bound_at, bound_of, is_bound as is_bound_field, is_chain as is_chain_of, chain as chain_of, kept_chain as kept_of, one_less as one_less_than, if_left, new_hops as new_hops_of, has_passed as has_passed_place, bound_entry as bound_entry_of, is_other, bound_on as bound_on_args, propagated};
+ghost use Rattle.hop_headers.specs.Propagation.{BoundEntry, hops_at as hops_of_pairs, bound_at, bound_of, is_bound as is_bound_field, is_chain as is_chain_of, chain as chain_of, kept_chain as kept_of, one_less as one_less_than, first_hops as hops_of_first, hops_left as hops_left_of, if_left, new_hops as new_hops_of, has_passed as has_passed_place, bound_entry as bound_entry_of, is_other, bound_on as bound_on_args, if_short as if_short_of, propagated};
 
 use crate::entry::PlaceName;
 use crate::gate::has_been_at;
@@ -89,7 +89,8 @@ fn chain(args: &Table) -> Option<&[FieldValue]>
 
 /// The values of the argument; none where it is malformed.
 fn kept_chain(args: &Table) -> &[FieldValue]
-    ensures { fields_view result.now ≡ kept_of (table_view args.now) }
+    ensures kept { fields_view result.now ≡ kept_of (table_view args.now) }
+    ensures entries { list_all is_bound_field (fields_view result.now) ≡ true }
 {
     match chain(args) {
         Some(values) => values,
@@ -104,23 +105,41 @@ fn one_less(hops: i32) -> u32
 }
 
 fn at_least_one(hops: u32) -> Option<u32>
-    ensures { result ≡ if_left hops }
+    ensures value { result ≡ if_left hops }
+    ensures same { IfSome result (λ left. left ≡ hops) }
 {
     if hops >= 1 { Some(hops) } else { None }
 }
 
-/// The hops of the new entry; `None` where none are left.
-fn new_hops(values: &[FieldValue], max_hops: u32) -> Option<u32>
+/// The hops of the first entry, if there is one.
+fn first_hops(values: &[FieldValue]) -> Option<i32>
     requires { list_all is_bound_field (fields_view values.now) ≡ true }
-    ensures { result ≡ new_hops_of (filter_map bound_of (fields_view values.now)) max_hops }
+    ensures { result ≡ hops_of_first (filter_map bound_of (fields_view values.now)) }
 {
     match values {
-        [] => at_least_one(max_hops),
-        [first, ..] => match hops_of(first) {
-            Some(hops) => at_least_one(one_less(hops).min(max_hops)),
-            None => unreachable!(),
-        },
+        [] => None,
+        [first, ..] => hops_of(first),
     }
+}
+
+fn hops_left(first: Option<i32>, max_hops: u32) -> u32
+    ensures value { result ≡ hops_left_of first max_hops }
+    ensures most { result ≤ max_hops }
+{
+    match first {
+        Some(hops) => one_less(hops).min(max_hops),
+        None => max_hops,
+    }
+}
+
+/// The hops of the new entry; `None` where none are left.
+#[tactic(auto, unfolding(crate::specs::Propagation::new_hops))]
+fn new_hops(values: &[FieldValue], max_hops: u32) -> Option<u32>
+    requires { list_all is_bound_field (fields_view values.now) ≡ true }
+    ensures value { result ≡ new_hops_of (filter_map bound_of (fields_view values.now)) max_hops }
+    ensures most { IfSome result (λ hops. hops ≤ max_hops) }
+{
+    at_least_one(hops_left(first_hops(values), max_hops))
 }
 
 fn has_passed(upstream: &PlaceName, values: &[FieldValue]) -> bool
@@ -200,4 +219,41 @@ fn bound_on(
     copy_without(FieldName::BoundFrom, args.pairs.as_slice(), &mut pairs)?;
     put(FieldName::BoundFrom, array_value(entries), &mut pairs)?;
     Ok(Table { pairs })
+}
+
+/// The arguments, unless they are too long for a binding.
+fn if_short(table: Table) -> Option<Table>
+    ensures { option_map table_view result ≡ if_short_of (table_view table) }
+{
+    if is_short(&table) { Some(table) } else { None }
+}
+
+/// The arguments of the upstream binding that stands for a binding of the downstream exchange with these arguments;
+/// `None` exactly where the binding goes no further.
+///
+/// That is where the upstream place stands in its `x-bound-from`, where no hops are left, or where the new arguments
+/// would be longer than 98,304 octets. Otherwise its `x-bound-from` goes, and a new one comes last: an entry of the
+/// downstream place and exchange with the new hops, and behind it the entries that were there. A malformed argument
+/// counts as none. RabbitMQ's "Federated Exchanges".
+#[tactic(auto, unfolding(crate::specs::Propagation::propagated))]
+pub fn propagate(
+    alloc: Global,
+    args: &Table,
+    upstream: &PlaceName,
+    downstream: &PlaceName,
+    exchange: &str,
+    max_hops: u32,
+) -> Result<Option<Table>, AllocError>
+    requires { max_hops < 2 ^ 31 }
+    ensures { IfOk result (λ found. option_map table_view found
+        ≡ propagated (table_view args.now) upstream.now downstream.now exchange.now max_hops) }
+{
+    let values = kept_chain(args);
+    if has_passed(upstream, values) {
+        return Ok(None);
+    }
+    match new_hops(values, max_hops) {
+        Some(hops) => Ok(if_short(bound_on(alloc, args, downstream, exchange, hops)?)),
+        None => Ok(None),
+    }
 }
