@@ -1,3 +1,4 @@
+pub mod GoingOn
 pub mod HopLemmas
 pub mod Loops
 pub mod PropagationLemmas
