@@ -127,7 +127,7 @@ others_on : (args : Pairs) (downstream : PlaceName) (exchange : List ℕ) (hops 
 unfolding bound_on
 others_on args down x n name other = other_last bound_from_name name _ (named_values args) other ∙ ap (first_of name) (pairs_of-named_values args)
 
-short_length : (args : Pairs) → is_short args ≡ true → length (table_spelling args) ≤ max_arguments
+pub short_length : (args : Pairs) → is_short args ≡ true → length (table_spelling args) ≤ max_arguments
 unfolding is_short
 short_length args h = leb-true (length (table_spelling args)) max_arguments h
 

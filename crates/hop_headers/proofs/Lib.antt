@@ -3,6 +3,7 @@ pub mod HopLemmas
 pub mod Loops
 pub mod PropagationLemmas
 pub mod RoomLemmas
+pub mod Spelled
 pub mod StampLemmas
 pub mod Steps
 pub mod TableLemmas

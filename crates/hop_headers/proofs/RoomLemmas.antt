@@ -61,6 +61,18 @@ value_is (long_string bytes) = omega arith
 value_is (byte_array bytes) = omega arith
 value_is _ = refl
 
+pub text_length : (bytes : List ℕ) → value_length (long_string bytes) ≡ 5 + length bytes
+unfolding value_length
+text_length bytes = omega arith
+
+pub table_length : (ps : Pairs) → value_length (table ps) ≡ 5 + pairs_length ps
+unfolding value_length pairs_length
+table_length ps = omega arith
+
+pub array_length : (vs : Fields) → value_length (array vs) ≡ 5 + fields_length vs
+unfolding value_length fields_length
+array_length vs = omega arith
+
 pub flat_none : (room : ℕ) (v : Field) → room_after room (flat_length v) ≡ None → None ≡ room_after room (value_length v)
 flat_none room v e = taken_none room (flat_length v) (inner_length v) e ∙ ap (room_after room) (value_is v)
 
@@ -69,11 +81,11 @@ flat_some room left v e = taken_some room (flat_length v) (inner_length v) left 
 
 -- ---- one after the other, as a loop goes over them
 
-fields_more : (v : Field) (vs : Fields) → fields_length (field v vs) ≡ value_length v + fields_length vs
+pub fields_more : (v : Field) (vs : Fields) → fields_length (field v vs) ≡ value_length v + fields_length vs
 unfolding fields_length value_length
 fields_more v vs = length-append (value_spelling v) (fields_spelling vs)
 
-pairs_more : (name : List ℕ) (v : Field) (ps : Pairs) → pairs_length (pair name v ps) ≡ (1 + length name + value_length v) + pairs_length ps
+pub pairs_more : (name : List ℕ) (v : Field) (ps : Pairs) → pairs_length (pair name v ps) ≡ (1 + length name + value_length v) + pairs_length ps
 unfolding pairs_length value_length
 pairs_more name v ps =
     omega (arith, length-append (name_spelling name) (value_spelling v ++ pairs_spelling ps), length-append (value_spelling v) (pairs_spelling ps))
