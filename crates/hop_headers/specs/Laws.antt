@@ -49,6 +49,12 @@ abbrev pub StampsKeepHeaders : Type 0
 StampsKeepHeaders = (headers : Pairs) (place : PlaceName) (name : List ℕ) (redelivered : Bool)
     → KeepsHeaders headers (stamped_exchange headers place name redelivered) × KeepsHeaders headers (stamped_queue headers place name redelivered)
 
+-- What comes of headers that have a spelling has a spelling, as long as a long can count its octets.
+abbrev pub StampsSpell : Type 0
+StampsSpell = (headers : Pairs) (place : PlaceName) (name : List ℕ) (redelivered : Bool) → IsTable headers
+    → (length (table_spelling (stamped_exchange headers place name redelivered)) < 2 ^ 32 → IsTable (stamped_exchange headers place name redelivered))
+    × (length (table_spelling (stamped_queue headers place name redelivered)) < 2 ^ 32 → IsTable (stamped_queue headers place name redelivered))
+
 -- The new entry of a propagated binding, with these hops.
 abbrev pub downstream_entry : PlaceName → List ℕ → ℕ → BoundEntry
 downstream_entry downstream exchange hops = record { place = downstream; exchange = exchange; hops = pos hops }

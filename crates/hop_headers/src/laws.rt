@@ -1,6 +1,6 @@
 //! What the definitions alone say.
 
-ghost use Rattle.hop_headers.specs.Laws.{GateDecides, StampsExchange, StampsQueue, StampsKeepHeaders, PropagatesOn, PropagatesFirst, PropagationKeepsArguments, PropagationSpells};
+ghost use Rattle.hop_headers.specs.Laws.{GateDecides, StampsExchange, StampsQueue, StampsKeepHeaders, StampsSpell, PropagatesOn, PropagatesFirst, PropagationKeepsArguments, PropagationSpells};
 
 /// A gate passes exactly where there are fewer entries than its limit, and none of the place.
 pub fn gates_decide()
@@ -23,7 +23,8 @@ pub fn propagation_goes_on()
     ensures others { PropagationKeepsArguments }
 {}
 
-/// What `propagate` gives of arguments that have a spelling has a spelling.
-pub fn propagation_spells()
-    ensures { PropagationSpells }
+/// What the stamps and `propagate` give of a table that has a spelling has a spelling.
+pub fn results_have_spellings()
+    ensures stamps { StampsSpell }
+    ensures propagation { PropagationSpells }
 {}

@@ -16,7 +16,7 @@ mod values;
 pub use entry::{HopEntry, HopObject, PlaceName};
 pub use gate::gate_passes;
 pub use hops::received_from;
-pub use laws::{gates_decide, propagation_goes_on, propagation_spells, stamps_name_the_place};
+pub use laws::{gates_decide, propagation_goes_on, results_have_spellings, stamps_name_the_place};
 pub use propagation::propagate;
 pub use stamps::{stamp_exchange, stamp_queue};
 pub use text::Text;
