@@ -111,7 +111,8 @@ goes_on args new up down x most first rest names read h =
       some_left = omega (arith, t.0, t.1);
       within = omega (arith, t.0, min-le_right (one_less first.hops) most);
       fewer = fewer first.hops most w.hops t.0 t.1;
-      elsewhere = elsewhere up (first ∷ rest) (ap (has_passed up) (sym es) ∙ w.apart) }
+      elsewhere = elsewhere up (first ∷ rest) (ap (has_passed up) (sym es) ∙ w.apart);
+    }
 
 pub begins : (args new : Pairs) (upstream downstream : PlaceName) (exchange : List ℕ) (most : ℕ) → AreNames downstream exchange
     → bound_from args ≡ None → propagated args upstream downstream exchange most ≡ Some new → bound_from new ≡ Some (downstream_entry downstream exchange most ∷ [])

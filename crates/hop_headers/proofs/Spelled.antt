@@ -249,7 +249,8 @@ on_is_table args down x n below h few =
     record {
       pairs = are_more others bound_from_name (array all) (are_filtered (is_other bound_from_name) (named_values args) (subst ArePairs same h.pairs)) bound_from_is spelled;
       counted = counted_in _ few;
-      nests = depth_more others bound_from_name (array all) max_depth (depth_filtered (is_other bound_from_name) (named_values args) max_depth (subst (λ (ps : Pairs). pairs_depth ps ≤ max_depth) same h.nests)) deep }
+      nests = depth_more others bound_from_name (array all) max_depth (depth_filtered (is_other bound_from_name) (named_values args) max_depth (subst (λ (ps : Pairs). pairs_depth ps ≤ max_depth) same h.nests)) deep;
+    }
 
 pub spells : (args new : Pairs) (upstream downstream : PlaceName) (exchange : List ℕ) (most : ℕ) → most < 2 ^ 31 → IsTable args → propagated args upstream downstream exchange most ≡ Some new → IsTable new
 spells args new up down x most below h done =
@@ -319,7 +320,8 @@ with_hops_is_table headers entry kept h spelled low brings few =
     record {
       pairs = are_set (named_values headers) received_from_name all (subst ArePairs same h.pairs) received_from_is (array_spelled entry kept spelled brings in_all);
       counted = counted_in _ few;
-      nests = depth_set (named_values headers) received_from_name all max_depth (subst (λ (ps : Pairs). pairs_depth ps ≤ max_depth) same h.nests) deep }
+      nests = depth_set (named_values headers) received_from_name all max_depth (subst (λ (ps : Pairs). pairs_depth ps ≤ max_depth) same h.nests) deep;
+    }
 
 table_counts : (ps : Pairs) → Counts (length (table_spelling ps)) → Counts (pairs_length ps)
 unfolding pairs_length

@@ -83,8 +83,11 @@ count_of _ = 0
 -- The entry that a table is, if it names a place.
 abbrev pub entry_with : Pairs → PlaceName → HopEntry
 entry_with ps place = record {
-    place = place; object = object_at ps;
-    redelivered = is_yes (first_of redelivered_name ps); visits = count_of (first_of visit_count_name ps) }
+  place = place;
+  object = object_at ps;
+  redelivered = is_yes (first_of redelivered_name ps);
+  visits = count_of (first_of visit_count_name ps);
+}
 
 unfoldable pub entry_at : Pairs → Option HopEntry
 entry_at ps = option_map (entry_with ps) (place_at ps)

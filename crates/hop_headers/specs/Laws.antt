@@ -39,7 +39,7 @@ abbrev pub StampsQueue : Type 0
 StampsQueue = (headers : Pairs) (place : PlaceName) (queue : List ℕ) (redelivered : Bool) → AreNames place queue
     → received_from (stamped_queue headers place queue redelivered)
     ≡ Some (queue_entry place queue redelivered (next_visits (visits_before place queue (hop_entries headers)))
-        ∷ filter (λ e. not (is_own place queue e)) (hop_entries headers))
+    ∷ filter (λ e. not (is_own place queue e)) (hop_entries headers))
 
 -- A stamp leaves the other headers.
 pub record KeepsHeaders (headers stamped : Pairs) : Type 0 where

@@ -37,7 +37,7 @@ pub(crate) fn has_been_at(wanted: PlaceTexts, values: &[FieldValue]) -> bool
 fn passes_hops(limit: u32, wanted: PlaceTexts, values: &[FieldValue]) -> bool
     ensures { result ≡ (nat_lt (length values.now) limit
         && not (list_any (is_at_place (place wanted.entry.cluster.now wanted.entry.vhost.now))
-            (fields_view values.now))) }
+        (fields_view values.now))) }
 {
     values.len() < limit as usize && !has_been_at(wanted, values)
 }

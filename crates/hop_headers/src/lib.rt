@@ -20,3 +20,6 @@ pub use laws::{gates_decide, propagation_goes_on, results_have_spellings, stamps
 pub use propagation::propagate;
 pub use stamps::{stamp_exchange, stamp_queue};
 pub use text::Text;
+
+#[cfg(test)]
+mod tests;

@@ -42,10 +42,7 @@ pub(crate) fn put(name: FieldName, value: FieldValue, to: &mut Pairs) -> Result<
 }
 
 /// Adds copies of all these names and values.
-pub(crate) fn copy_pairs(
-    from: &[(String, FieldValue)],
-    to: &mut Pairs,
-) -> Result<(), AllocError>
+pub(crate) fn copy_pairs(from: &[(String, FieldValue)], to: &mut Pairs) -> Result<(), AllocError>
     ensures { OnOk result (pairs_view to.new.items ≡ pairs_view to.old.items ++ pairs_view from.now) }
 {
     for (name, value) in from {
@@ -69,7 +66,7 @@ pub(crate) fn copy_values(from: &[FieldValue], to: &mut Vec<FieldValue>) -> Resu
 fn index_of(name: FieldName, pairs: &[(String, FieldValue)]) -> Option<usize>
     ensures found { IfSome result (λ i. (i < length pairs.now) × ((v : Field)
         → set_first (name_text name) v (pairs_view pairs.now)
-            ≡ pairs_view (take i pairs.now) ++ (name_text name, v) ∷ pairs_view (drop (i + 1) pairs.now))) }
+        ≡ pairs_view (take i pairs.now) ++ (name_text name, v) ∷ pairs_view (drop (i + 1) pairs.now))) }
     ensures none { IfNone result ((v : Field) → set_first (name_text name) v (pairs_view pairs.now)
         ≡ pairs_view pairs.now ++ (name_text name, v) ∷ []) }
 {

@@ -30,8 +30,16 @@ pub(crate) fn put_names(
         ++ named_object place.now (name_text object) name.now) }
 {
     let alloc = *to.allocator();
-    put(FieldName::ClusterName, text_value(alloc, place.cluster.as_str())?, to)?;
-    put(FieldName::Vhost, text_value(alloc, place.vhost.as_str())?, to)?;
+    put(
+        FieldName::ClusterName,
+        text_value(alloc, place.cluster.as_str())?,
+        to,
+    )?;
+    put(
+        FieldName::Vhost,
+        text_value(alloc, place.vhost.as_str())?,
+        to,
+    )?;
     put(object, text_value(alloc, name)?, to)
 }
 
@@ -47,7 +55,11 @@ fn exchange_hop(
 {
     let mut pairs = Vec::with_capacity(alloc, 4)?;
     put_names(place, FieldName::Exchange, exchange, &mut pairs)?;
-    put(FieldName::Redelivered, FieldValue::Bool(redelivered), &mut pairs)?;
+    put(
+        FieldName::Redelivered,
+        FieldValue::Bool(redelivered),
+        &mut pairs,
+    )?;
     Ok(table_value(pairs))
 }
 
@@ -65,8 +77,16 @@ fn queue_hop(
 {
     let mut pairs = Vec::with_capacity(alloc, 5)?;
     put_names(place, FieldName::Queue, queue, &mut pairs)?;
-    put(FieldName::Redelivered, FieldValue::Bool(redelivered), &mut pairs)?;
-    put(FieldName::VisitCount, FieldValue::I32(visits as i32), &mut pairs)?;
+    put(
+        FieldName::Redelivered,
+        FieldValue::Bool(redelivered),
+        &mut pairs,
+    )?;
+    put(
+        FieldName::VisitCount,
+        FieldValue::I32(visits as i32),
+        &mut pairs,
+    )?;
     Ok(table_value(pairs))
 }
 
@@ -95,7 +115,9 @@ fn own_visits(place: &PlaceName, queue: &str, table: &Table) -> Option<u32>
         (entry_at (table_view table.now)) }
 {
     match place_at(table) {
-        Some(found) if is_place(place, found) && is_of_queue(queue, table) => Some(visits_at(table)),
+        Some(found) if is_place(place, found) && is_of_queue(queue, table) => Some(visits_at(
+            table,
+        )),
         _ => None,
     }
 }
@@ -214,7 +236,13 @@ pub fn stamp_exchange(alloc: Global, headers: &Table, entry: &HopEntry) -> Resul
 {
     match &entry.object {
         HopObject::Exchange(exchange) => {
-            stamp_of_exchange(alloc, headers, &entry.place, exchange.as_str(), entry.redelivered)
+            stamp_of_exchange(
+                alloc,
+                headers,
+                &entry.place,
+                exchange.as_str(),
+                entry.redelivered,
+            )
         }
         HopObject::Queue(_) | HopObject::Neither => unreachable!(),
     }
@@ -232,7 +260,13 @@ pub fn stamp_queue(alloc: Global, headers: &Table, entry: &HopEntry) -> Result<T
 {
     match &entry.object {
         HopObject::Queue(queue) => {
-            stamp_of_queue(alloc, headers, &entry.place, queue.as_str(), entry.redelivered)
+            stamp_of_queue(
+                alloc,
+                headers,
+                &entry.place,
+                queue.as_str(),
+                entry.redelivered,
+            )
         }
         HopObject::Exchange(_) | HopObject::Neither => unreachable!(),
     }

@@ -4,4 +4,5 @@ use Rattle.hop_headers.proofs.laws.results_have_spellings.Goals as goal
 pub returns : goal.returns
 returns c = record {
   stamps = λ headers place name redelivered h. (exchange_stamp_spells headers place name redelivered h, queue_stamp_spells headers place name redelivered h);
-  propagation = spells }
+  propagation = spells;
+}

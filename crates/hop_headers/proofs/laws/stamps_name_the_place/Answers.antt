@@ -5,4 +5,5 @@ pub returns : goal.returns
 returns c = record {
   exchange = stamps_exchange;
   queue = stamps_queue;
-  others = λ headers place name redelivered. (exchange_keeps headers place name redelivered, queue_keeps headers place name redelivered) }
+  others = λ headers place name redelivered. (exchange_keeps headers place name redelivered, queue_keeps headers place name redelivered);
+}
