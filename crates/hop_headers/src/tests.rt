@@ -1,3 +1,6 @@
+ghost use Rattle.std.specs.Prelude.{◌<◌, ◌^◌, IfOk};
+ghost use Rattle.hop_headers.specs.Stamps.{IsExchange, IsQueue};
+
 use super::*;
 use field_tables::{Table, TableFault, read_table};
 use std::alloc::{AllocError, Global};
@@ -62,10 +65,23 @@ fn place(alloc: Global, cluster: &str) -> Result<PlaceName, AllocError> {
     })
 }
 
-fn entry(alloc: Global, cluster: &str, object: HopObject) -> Result<HopEntry, AllocError> {
+fn exchange_entry(alloc: Global, cluster: &str, exchange: &str) -> Result<HopEntry, AllocError>
+    ensures { IfOk result (λ e. IsExchange e.object) }
+{
     Ok(HopEntry {
         place: place(alloc, cluster)?,
-        object,
+        object: HopObject::Exchange(Text::from_str(alloc, exchange)?),
+        redelivered: false,
+        visits: 0,
+    })
+}
+
+fn queue_entry(alloc: Global, cluster: &str, queue: &str) -> Result<HopEntry, AllocError>
+    ensures { IfOk result (λ e. IsQueue e.object) }
+{
+    Ok(HopEntry {
+        place: place(alloc, cluster)?,
+        object: HopObject::Queue(Text::from_str(alloc, queue)?),
         redelivered: false,
         visits: 0,
     })
@@ -92,11 +108,10 @@ fn chain(rt: HostRuntime) -> Result<(), Fail> {
 }
 
 fn sent_on(alloc: Global, octets: &[u8], cluster: &str, wanted: &[u8]) -> Result<bool, TableFault> {
-    let object = HopObject::Exchange(Text::from_str(alloc, "x")?);
     let stamped = stamp_exchange(
         alloc,
         &table(alloc, octets)?,
-        &entry(alloc, cluster, object)?,
+        &exchange_entry(alloc, cluster, "x")?,
     )?;
     Ok(stamped == table(alloc, wanted)?)
 }
@@ -118,7 +133,12 @@ fn forged_hop_header(rt: HostRuntime) -> Result<(), Fail> {
     let Some(entries) = received_from(alloc, &headers)? else {
         panic!(rt; "entries");
     };
-    let wanted = entry(alloc, "b", HopObject::Neither)?;
+    let wanted = HopEntry {
+        place: place(alloc, "b")?,
+        object: HopObject::Neither,
+        redelivered: false,
+        visits: 0,
+    };
     assert!(rt; entries.len() == 1);
     assert!(rt; entries.first() == Some(&wanted));
     Ok(())
@@ -136,9 +156,8 @@ fn counts_as_none(rt: HostRuntime) -> Result<(), Fail> {
 #[test]
 fn sent_on_by_queue_link(rt: HostRuntime) -> Result<(), Fail> {
     let alloc = rt.alloc();
-    let object = HopObject::Queue(Text::from_str(alloc, "w")?);
     let headers = table(alloc, BY_TWO_QUEUES)?;
-    let stamped = stamp_queue(alloc, &headers, &entry(alloc, "a", object)?)?;
+    let stamped = stamp_queue(alloc, &headers, &queue_entry(alloc, "a", "w")?)?;
     assert!(rt; stamped == table(alloc, BY_QUEUE_AGAIN)?);
     Ok(())
 }
