@@ -1,19 +1,19 @@
 -- What a binding that is propagated says.
-use Rattle.std.proofs.Common.{◌≡◌, ◌≢◌, ℕ, ℤ, pos, negsuc, zero, suc, ◌+◌, ◌-◌, ◌<◌, ◌≤◌, min, leb, Bool, true, false, cond, ◌&&◌, List, [], ◌∷◌, ◌++◌, length, Option, Some, None, refl, sym, ap, subst, ◌∙◌, arith}
-use Rattle.std.specs.Prelude.{IsUtf8, ◌<ℤ◌, All, filter, option_map, option_and_then, is_some, unwrap_or, nat_le}
-use Rattle.std.specs.List.{list_all, list_any, filter_map}
+use Rattle.std.proofs.Common.{◌≡◌, ◌≢◌, ℕ, ℤ, pos, negsuc, ◌-◌, ◌<◌, ◌≤◌, min, Bool, true, false, cond, List, [], ◌∷◌, length, Option, Some, None, refl, sym, ap, subst, ◌∙◌, arith}
+use Rattle.std.specs.Prelude.{◌<ℤ◌, All, option_map, option_and_then, is_some, unwrap_or, nat_le}
+use Rattle.std.specs.List.{filter_map}
 use Rattle.std.specs.Str.{is_utf8}
 use Rattle.std.proofs.lemmas.Str.{is_utf8-from_IsUtf8}
 use Rattle.std.proofs.lemmas.Bool.{leb-true}
 use Rattle.std.proofs.lemmas.Int.{ints}
 use Rattle.std.proofs.Math.Nat.{min-le_left, min-le_right}
 use Rattle.field_tables.specs.Fields.{Field, array, table, Pairs, first_of}
-use Rattle.field_tables.specs.View.{fields_of, pairs_of}
+use Rattle.field_tables.specs.View.{fields_of}
 use Rattle.field_tables.specs.Tables.{table_spelling}
 use Rattle.hop_headers.specs.declared.entry.PlaceName.{PlaceName}
 use Rattle.hop_headers.specs.Names.{bound_from_name, cluster_name, vhost_name, exchange_name, hops_name}
 use Rattle.hop_headers.specs.Hops.{named_values, array_at, text_at, place_at, same_place}
-use Rattle.hop_headers.specs.Propagation.{BoundEntry, bound_at, bound_of, is_bound, chain, bound_from, kept_chain, bound_entries, one_less, first_hops, hops_left, if_left, new_hops, has_passed, bound_entry, is_other, bound_on, is_short, if_short, propagated, max_arguments}
+use Rattle.hop_headers.specs.Propagation.{BoundEntry, bound_at, bound_of, is_bound, chain, bound_from, kept_chain, bound_entries, one_less, first_hops, hops_left, if_left, new_hops, has_passed, bound_entry, bound_on, is_short, if_short, propagated, max_arguments}
 use Rattle.hop_headers.specs.Laws.{AreNames, downstream_entry, GoesOn, KeepsArguments}
 use Rattle.hop_headers.proofs.Views.{values_of-fields_of}
 use Rattle.hop_headers.proofs.HopLemmas.{none_any, same_no}

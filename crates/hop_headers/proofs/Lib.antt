@@ -5,6 +5,5 @@ pub mod PropagationLemmas
 pub mod RoomLemmas
 pub mod Spelled
 pub mod StampLemmas
-pub mod Steps
 pub mod TableLemmas
 pub mod Views

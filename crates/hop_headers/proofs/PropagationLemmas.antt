@@ -1,5 +1,5 @@
 -- The entries of an `x-bound-from`, and the values that they are read from.
-use Rattle.std.proofs.Common.{◌≡◌, ◌≢◌, ℕ, ℤ, zero, suc, ◌+◌, ◌<◌, ◌≤◌, Bool, true, false, cond, ◌&&◌, ◌||◌, List, [], ◌∷◌, length, get_or, Option, Some, None, refl, sym, ap, subst, ◌∙◌, arith}
+use Rattle.std.proofs.Common.{◌≡◌, ℕ, ℤ, ◌<◌, ◌≤◌, Bool, true, false, cond, ◌||◌, List, [], ◌∷◌, length, get_or, Option, Some, None, refl, sym, arith}
 use Rattle.std.specs.Prelude.{option_map, option_and_then, is_some, unwrap_or}
 use Rattle.std.specs.Option.{option_map_or}
 use Rattle.std.specs.List.{list_all, list_any, filter_map, cons_option}
@@ -8,7 +8,7 @@ use Rattle.field_tables.specs.View.{field_view, fields_view}
 use Rattle.field_tables.specs.declared.value.FieldValue.{FieldValue}
 use Rattle.hop_headers.specs.declared.entry.PlaceName.{PlaceName}
 use Rattle.hop_headers.specs.Names.{bound_from_name, exchange_name}
-use Rattle.hop_headers.specs.Hops.{table_of, array_of, array_at, text_at, place_at, place_of, same_place}
+use Rattle.hop_headers.specs.Hops.{table_of, array_at, text_at, place_at, place_of, same_place}
 use Rattle.hop_headers.specs.Gate.{is_at}
 use Rattle.hop_headers.specs.Propagation.{BoundEntry, hops_at, bound_with, bound_at, bound_of, is_bound, is_chain, if_chain, chain, kept_chain, first_hops, has_passed}
 use Rattle.hop_headers.proofs.HopLemmas.{both}

@@ -1,11 +1,10 @@
 -- Octets taken one after the other.
-use Rattle.std.proofs.Common.{◌≡◌, ℕ, zero, suc, ◌+◌, ◌-◌, ◌≤◌, ◌<◌, Bool, true, false, cond, leb, List, [], ◌∷◌, ◌++◌, length, Option, Some, None, String, string_bytes, Global, Vec, refl, sym, ap, ◌∙◌, arith}
+use Rattle.std.proofs.Common.{◌≡◌, ℕ, ◌+◌, ◌-◌, ◌≤◌, ◌<◌, Bool, true, false, cond, List, [], ◌∷◌, ◌++◌, length, Option, Some, None, String, string_bytes, Global, Vec, refl, sym, ap, ◌∙◌, arith}
 use Rattle.std.specs.Prelude.{option_and_then, nat_le, is_some}
 use Rattle.std.proofs.lemmas.Bool.{leb-true, leb-false, le-leb, lt-leb}
 use Rattle.std.proofs.lemmas.List.{length-append}
-use Rattle.std.specs.Int.{w16, w32, w64, to_be_bytes}
-use Rattle.field_tables.specs.Fields.{Field, boolean, signed_octet, octet, signed_short, short, signed_long, long, signed_longlong, float, double, decimal, long_string, array, timestamp, table, void, byte_array, Fields, no_fields, field, Pairs, no_pairs, pair}
-use Rattle.field_tables.specs.Tables.{kind_of, kind_octet, typed, value_spelling, content_spelling, fields_spelling, pairs_spelling, name_spelling, counted_spelling, table_spelling}
+use Rattle.field_tables.specs.Fields.{Field, float, double, decimal, long_string, array, table, byte_array, Fields, field, Pairs, pair}
+use Rattle.field_tables.specs.Tables.{value_spelling, fields_spelling, pairs_spelling, name_spelling, table_spelling}
 use Rattle.field_tables.specs.View.{fields_of, pairs_of, field_view, fields_view, pairs_view}
 use Rattle.field_tables.specs.declared.value.FieldValue.{FieldValue}
 use Rattle.field_tables.specs.declared.value.FieldValue.TheViews.{Table, roll-Table}

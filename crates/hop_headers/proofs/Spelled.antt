@@ -1,8 +1,6 @@
 -- Arguments that are made of parts that have a spelling have one.
-use Rattle.std.proofs.Common.{◌≡◌, ℕ, ℤ, pos, zero, suc, ◌+◌, ◌*◌, ◌^◌, ◌<◌, ◌≤◌, max, Bool, true, false, cond, not, List, [], ◌∷◌, ◌++◌, length, Option, Some, None, refl, sym, ap, subst, ◌∙◌, arith}
+use Rattle.std.proofs.Common.{◌≡◌, ℕ, ℤ, pos, suc, ◌+◌, ◌^◌, ◌<◌, ◌≤◌, Bool, true, false, cond, not, List, [], ◌∷◌, ◌++◌, length, Option, Some, None, refl, sym, ap, subst, ◌∙◌, arith}
 use Rattle.std.specs.Prelude.{filter, nat_lt, option_and_then, unwrap_or}
-use Rattle.std.specs.Int.{w32}
-use Rattle.std.specs.Int.RustNames.{FitsSigned}
 use Rattle.std.specs.Str.{bytes_eq, IsAscii}
 use Rattle.std.specs.List.{list_all}
 use Rattle.std.proofs.lemmas.Str.{IsUtf8-from_ascii}
@@ -10,7 +8,7 @@ use Rattle.std.proofs.lemmas.Str.Ascii.{IsAscii-from_all}
 use Rattle.std.proofs.lemmas.List.Sums.{AllPass-from_list_all}
 use Rattle.std.proofs.lemmas.Bool.{ltb-true}
 use Rattle.std.proofs.Math.Nat.{min-le_right}
-use Rattle.field_tables.specs.Fields.{Field, boolean, signed_octet, octet, signed_short, short, signed_long, long, signed_longlong, float, double, decimal, long_string, array, timestamp, table, void, byte_array, Fields, no_fields, field, Pairs, no_pairs, pair, first_of}
+use Rattle.field_tables.specs.Fields.{Field, boolean, signed_long, long_string, array, table, Fields, no_fields, field, Pairs, no_pairs, pair, first_of}
 use Rattle.field_tables.specs.View.{fields_of, pairs_of}
 use Rattle.field_tables.specs.Tables.{max_depth, table_spelling, pairs_spelling, fields_spelling, depth, fields_depth, pairs_depth, IsCounted, IsName, HasSpelling, HaveSpelling, ArePairs, IsTable}
 use Rattle.hop_headers.specs.declared.entry.PlaceName.{PlaceName}
@@ -21,7 +19,7 @@ use Rattle.hop_headers.specs.Propagation.{is_chain, if_chain, chain, kept_chain,
 use Rattle.hop_headers.specs.Room.{value_length, fields_length, pairs_length}
 use Rattle.hop_headers.proofs.RoomLemmas.{text_length, table_length, array_length, fields_more, pairs_more}
 use Rattle.hop_headers.proofs.TableLemmas.{pairs_of-named_values}
-use Rattle.hop_headers.proofs.GoingOn.{Went, went, hops_are, short_length}
+use Rattle.hop_headers.proofs.GoingOn.{went, hops_are, short_length}
 
 -- ---- a table without some of its pairs, and with one more
 

@@ -1,22 +1,24 @@
 -- What stamped headers say.
-use Rattle.std.proofs.Common.{◌≡◌, ◌≢◌, ℕ, ℤ, pos, Bool, true, false, cond, not, ◌&&◌, List, [], ◌∷◌, ◌++◌, Option, Some, None, refl, sym, ap, subst, ◌∙◌}
-use Rattle.std.specs.Prelude.{IsUtf8, filter, option_map, option_and_then, is_some, unwrap_or}
+use Rattle.std.proofs.Common.{◌≡◌, ℕ, Bool, true, false, cond, not, ◌&&◌, List, [], ◌∷◌, Option, Some, None, refl, sym, ap, ◌∙◌}
+use Rattle.std.specs.Prelude.{filter, option_map, is_some}
 use Rattle.std.specs.Option.{option_map_or}
 use Rattle.std.specs.List.{list_all, filter_map, cons_option}
 use Rattle.std.specs.Str.{is_utf8}
 use Rattle.std.proofs.lemmas.Str.{is_utf8-from_IsUtf8}
-use Rattle.field_tables.specs.Fields.{Field, array, table, Pairs, first_of}
+use Rattle.std.proofs.lemmas.Slice.Eq.{bytes_eq-Decides}
+use Rattle.field_tables.specs.Fields.{Field, array, table, Pairs}
 use Rattle.field_tables.specs.View.{fields_of}
 use Rattle.hop_headers.specs.declared.entry.PlaceName.{PlaceName}
 use Rattle.hop_headers.specs.declared.entry.HopEntry.{HopEntry}
-use Rattle.hop_headers.specs.declared.entry.HopObject.TheVariants.{Exchange, Queue}
+use Rattle.hop_headers.specs.declared.entry.HopObject.{HopObject}
+use Rattle.hop_headers.specs.declared.entry.HopObject.TheVariants.{Exchange, Queue, Neither}
 use Rattle.hop_headers.specs.Names.{received_from_name, cluster_name, vhost_name, exchange_name, queue_name, redelivered_name, visit_count_name}
-use Rattle.hop_headers.specs.Hops.{array_of, array_at, text_at, place_at, place_of, object_at, names_place, entry_at, entry_of, if_hops, hops, kept_hops, hop_entries, received_from}
-use Rattle.hop_headers.specs.Stamps.{with_header, with_hops, exchange_hop, stamped_exchange, queue_hop, is_own, is_own_hop, visits_before, next_visits, stamped_queue}
+use Rattle.hop_headers.specs.Hops.{array_at, text_at, place_at, object_at, names_place, same_place, entry_at, entry_of, hops, kept_hops, hop_entries, received_from}
+use Rattle.hop_headers.specs.Stamps.{with_hops, exchange_hop, stamped_exchange, queue_hop, is_queue, is_own, is_own_hop, visits_before, next_visits, stamped_queue}
 use Rattle.hop_headers.specs.Laws.{AreNames, exchange_entry, queue_entry, KeepsHeaders}
 use Rattle.hop_headers.proofs.Views.{values_of-fields_of}
 use Rattle.hop_headers.proofs.TableLemmas.{first_with, other_with}
-use Rattle.hop_headers.proofs.HopLemmas.{both, entry_place, kept_named}
+use Rattle.hop_headers.proofs.HopLemmas.{both, entry_place, kept_named, same_yes, same_self, bytes_self}
 
 -- ---- the entries that links write
 
@@ -101,3 +103,21 @@ exchange_keeps headers place exchange redelivered = record { others = λ name ot
 pub queue_keeps : (headers : Pairs) (place : PlaceName) (queue : List ℕ) (redelivered : Bool) → KeepsHeaders headers (stamped_queue headers place queue redelivered)
 unfolding stamped_queue
 queue_keeps headers place queue redelivered = record { others = λ name other. other_with received_from_name name _ headers other }
+
+-- ---- an entry of its own
+
+queue_yes : (queue : List ℕ) (o : HopObject) → is_queue queue o ≡ true → o ≡ Queue queue
+queue_yes queue (Queue name) h = ap (λ (x : List ℕ). Queue x) (sym ((bytes_eq-Decides queue name).0 h))
+queue_yes queue (Exchange x) h = absurd cc
+queue_yes queue Neither h = absurd cc
+
+pub own_yes : (place : PlaceName) (queue : List ℕ) (e : HopEntry) → is_own place queue e ≡ true → (e.place ≡ place) × (e.object ≡ Queue queue)
+own_yes place queue e h =
+    let t = both (same_place place e.place) (is_queue queue e.object) h in
+    (sym (same_yes place e.place t.0), queue_yes queue e.object t.1)
+
+pub own_back : (place : PlaceName) (queue : List ℕ) (e : HopEntry) → (e.place ≡ place) × (e.object ≡ Queue queue) → is_own place queue e ≡ true
+own_back place queue e h =
+    let at : same_place place e.place ≡ true = ap (λ (p : PlaceName). same_place place p) h.0 ∙ same_self place in
+    let of : is_queue queue e.object ≡ true = ap (λ (o : HopObject). is_queue queue o) h.1 ∙ bytes_self queue in
+    rw (at, of) refl

@@ -1,6 +1,6 @@
 -- Arrays and tables of the program as the lists of their fields.
-use Rattle.std.proofs.Common.{◌≡◌, ℕ, List, [], ◌∷◌, map, Option, Some, String, string_bytes, Global, Vec, refl, ap, ◌∙◌, rules}
-use Rattle.field_tables.specs.Fields.{Field, array, table, Pairs}
+use Rattle.std.proofs.Common.{◌≡◌, ℕ, List, [], ◌∷◌, map, Some, String, Global, Vec, refl, ap, rules}
+use Rattle.field_tables.specs.Fields.{Field, array, table}
 use Rattle.field_tables.specs.View.{fields_of, pairs_of, named, field_view, fields_view, pair_view, pairs_view}
 use Rattle.field_tables.specs.declared.value.FieldValue.{FieldValue, the_lemmas}
 use Rattle.field_tables.specs.declared.value.FieldValue.TheViews.{Array, Table, roll-Table}
@@ -21,9 +21,9 @@ pub values_of-fields_of : (vs : List Field) → values_of (fields_of vs) ≡ vs
 values_of-fields_of [] = refl
 values_of-fields_of (v ∷ vs) = ap (λ (ws : List Field). v ∷ ws) (values_of-fields_of vs)
 
-pub named_values-pairs_of : (ps : List (List ℕ × Field)) → named_values (pairs_of ps) ≡ ps
-named_values-pairs_of [] = refl
-named_values-pairs_of (p ∷ ps) = ap (λ (qs : List (List ℕ × Field)). p ∷ qs) (named_values-pairs_of ps)
+pub listed : (ps : List (List ℕ × Field)) → named_values (pairs_of ps) ≡ ps
+listed [] = refl
+listed (p ∷ ps) = ap (λ (qs : List (List ℕ × Field)). p ∷ qs) (listed ps)
 
 pub array_is : (value : FieldValue) (v : Vec FieldValue Global) → value ≡ Array v → Some (fields_view v.items) ≡ array_of (field_view value)
 array_is value v is = rw (is, view-Array v, values_of-fields_of (fields_view v.items)) refl

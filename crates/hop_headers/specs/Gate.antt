@@ -1,6 +1,6 @@
 -- Which messages a gate passes (RabbitMQ's "Federated Exchanges": a message is forwarded at most max-hops times, and not
 -- to where it has already been).
-use Rattle.std.specs.Prelude.{◌≡◌, ◌≢◌, ℕ, ◌<◌, nat_lt, Bool, false, not, ◌&&◌, List, length, All}
+use Rattle.std.specs.Prelude.{◌≢◌, ℕ, ◌<◌, nat_lt, Bool, false, not, ◌&&◌, List, length, All}
 use Rattle.std.specs.List.{list_any}
 use Rattle.std.specs.Option.{option_map_or}
 use Rattle.field_tables.specs.Fields.{Field, Pairs}

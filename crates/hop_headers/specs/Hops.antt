@@ -1,6 +1,6 @@
 -- What an `x-received-from` says: the places and objects that a message came through, the last first (RabbitMQ's
 -- "Federated Exchanges", which names the header; which values count is this project's own).
-use Rattle.std.specs.Prelude.{ℕ, ℤ, pos, negsuc, Bool, true, false, ◌&&◌, List, [], ◌∷◌, Option, Some, None, option_map, option_and_then, is_some, unwrap_or, if◌then◌else◌}
+use Rattle.std.specs.Prelude.{ℕ, pos, Bool, false, ◌&&◌, List, [], ◌∷◌, Option, Some, None, option_map, option_and_then, is_some, unwrap_or, if◌then◌else◌}
 use Rattle.std.specs.List.{list_all, filter_map}
 use Rattle.std.specs.Str.{bytes_eq, is_utf8}
 use Rattle.field_tables.specs.Fields.{Field, boolean, signed_long, long_string, array, table, Fields, no_fields, field, Pairs, no_pairs, pair, first_of}

@@ -1,5 +1,5 @@
 -- What follows from the definitions of hops, gates, stamps and propagation.
-use Rattle.std.specs.Prelude.{◌≡◌, ◌≢◌, ◌↔◌, ℕ, ℤ, pos, ◌<ℤ◌, ◌<◌, ◌≤◌, ◌^◌, Bool, true, not, List, [], ◌∷◌, filter, Option, Some, None, IsUtf8, All, length}
+use Rattle.std.specs.Prelude.{◌≡◌, ◌≢◌, ◌↔◌, ℕ, pos, ◌<ℤ◌, ◌<◌, ◌≤◌, ◌^◌, Bool, true, not, List, [], ◌∷◌, filter, Some, None, IsUtf8, All, length}
 use Rattle.field_tables.specs.Fields.{Pairs, first_of}
 use Rattle.field_tables.specs.Tables.{IsTable, table_spelling}
 use Rattle.hop_headers.specs.declared.entry.PlaceName.{PlaceName}
@@ -33,6 +33,10 @@ GateDecides = (limit : ℕ) (cluster vhost : List ℕ) (headers : Pairs)
 abbrev pub StampsExchange : Type 0
 StampsExchange = (headers : Pairs) (place : PlaceName) (exchange : List ℕ) (redelivered : Bool) → AreNames place exchange
     → received_from (stamped_exchange headers place exchange redelivered) ≡ Some (exchange_entry place exchange redelivered ∷ hop_entries headers)
+
+-- An entry is a queue link's own exactly where it names that place and that queue.
+abbrev pub OwnDecides : Type 0
+OwnDecides = (place : PlaceName) (queue : List ℕ) (e : HopEntry) → (is_own place queue e ≡ true) ↔ ((e.place ≡ place) × (e.object ≡ Queue queue))
 
 -- A queue link puts its entry in front, and of the entries that were read just those of its own place and queue go.
 abbrev pub StampsQueue : Type 0

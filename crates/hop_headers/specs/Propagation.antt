@@ -1,9 +1,9 @@
 -- How a binding of the downstream exchange becomes one of the upstream exchange (RabbitMQ's "Federated Exchanges": bindings
 -- are replicated to the upstream, and go no further than max-hops; `x-bound-from` and its fields are this project's own).
-use Rattle.std.specs.Prelude.{ℕ, ℤ, pos, negsuc, ◌-◌, min, nat_le, Bool, true, false, not, List, [], ◌∷◌, ◌++◌, length, filter, Option, Some, None, option_map, option_and_then, is_some, unwrap_or, if◌then◌else◌}
+use Rattle.std.specs.Prelude.{ℕ, ℤ, pos, negsuc, ◌-◌, min, nat_le, Bool, false, not, List, [], ◌∷◌, ◌++◌, length, filter, Option, Some, None, option_map, option_and_then, is_some, unwrap_or, if◌then◌else◌}
 use Rattle.std.specs.List.{list_any, list_all, filter_map}
 use Rattle.std.specs.Str.{bytes_eq}
-use Rattle.field_tables.specs.Fields.{Field, signed_long, long_string, array, table, Pairs, first_of}
+use Rattle.field_tables.specs.Fields.{Field, signed_long, array, table, Pairs, first_of}
 use Rattle.field_tables.specs.View.{fields_of, pairs_of}
 use Rattle.field_tables.specs.Tables.{table_spelling}
 use Rattle.hop_headers.specs.declared.entry.PlaceName.{PlaceName}

@@ -1,4 +1,4 @@
--- How many octets a table takes, counted down from those that there is room for.
+-- How many octets a table takes (AMQP 0-9-1, 4.2.5.5 "Field Tables"), counted down from those that there is room for.
 use Rattle.std.specs.Prelude.{ℕ, ◌+◌, ◌-◌, nat_le, length, Option, Some, None, if◌then◌else◌}
 use Rattle.field_tables.specs.Fields.{Field, boolean, signed_octet, octet, signed_short, short, signed_long, long, signed_longlong, float, double, decimal, long_string, array, timestamp, table, void, byte_array, Fields, Pairs}
 use Rattle.field_tables.specs.Tables.{value_spelling, fields_spelling, pairs_spelling}

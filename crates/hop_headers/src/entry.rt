@@ -3,7 +3,7 @@
 use crate::text::Text;
 
 /// A place as headers name it: a cluster and a virtual host of it.
-#[derive(Clone, PartialEq, Debug, Drop)]
+#[derive(Clone, PartialEq, Drop)]
 pub struct PlaceName {
     /// The name of the cluster.
     pub cluster: Text,
@@ -12,7 +12,7 @@ pub struct PlaceName {
 }
 
 /// What a message was taken from.
-#[derive(Clone, PartialEq, Debug, Drop)]
+#[derive(Clone, PartialEq, Drop)]
 pub enum HopObject {
     /// An exchange, by an exchange link.
     Exchange(Text),
@@ -23,7 +23,7 @@ pub enum HopObject {
 }
 
 /// One entry of an `x-received-from`.
-#[derive(Clone, PartialEq, Debug, Drop)]
+#[derive(Clone, PartialEq, Drop)]
 pub struct HopEntry {
     /// The upstream place.
     pub place: PlaceName,

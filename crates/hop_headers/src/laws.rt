@@ -1,6 +1,6 @@
 //! What the definitions alone say.
 
-ghost use Rattle.hop_headers.specs.Laws.{GateDecides, StampsExchange, StampsQueue, StampsKeepHeaders, StampsSpell, PropagatesOn, PropagatesFirst, PropagationKeepsArguments, PropagationSpells};
+ghost use Rattle.hop_headers.specs.Laws.{GateDecides, StampsExchange, StampsQueue, OwnDecides, StampsKeepHeaders, StampsSpell, PropagatesOn, PropagatesFirst, PropagationKeepsArguments, PropagationSpells};
 
 /// A gate passes exactly where there are fewer entries than its limit, and none of the place.
 pub fn gates_decide()
@@ -12,6 +12,7 @@ pub fn gates_decide()
 pub fn stamps_name_the_place()
     ensures exchange { StampsExchange }
     ensures queue { StampsQueue }
+    ensures own { OwnDecides }
     ensures others { StampsKeepHeaders }
 {}
 

@@ -102,7 +102,7 @@ fn put_first(
 }
 
 /// The table with a value under a name: the first of that name takes it where it stands, else it comes last.
-#[tactic(auto, unfolding(crate::specs::Stamps::with_header), using(crate::proofs::Steps::listed))]
+#[tactic(auto, unfolding(crate::specs::Stamps::with_header), using(crate::proofs::Views::listed))]
 pub(crate) fn with_header(
     alloc: Global,
     headers: &Table,

@@ -201,7 +201,7 @@ fn copy_without(
     Ok(())
 }
 
-#[tactic(auto, unfolding(crate::specs::Propagation::bound_on), using(crate::proofs::Steps::listed))]
+#[tactic(auto, unfolding(crate::specs::Propagation::bound_on), using(crate::proofs::Views::listed))]
 fn bound_on(
     alloc: Global,
     args: &Table,

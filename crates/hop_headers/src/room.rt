@@ -36,7 +36,7 @@ fn after_octets(octets: &[u8], first: usize, room: usize) -> Option<usize>
     take_more(room, first, octets.len())
 }
 
-/// What is left after a value, the values in it apart.
+/// What is left after a value, the values in it apart: its type is one octet, a number of octets four.
 #[tactic(auto, unfolding(crate::specs::Room::flat_length))]
 fn after_flat(value: &FieldValue, room: usize) -> Option<usize>
     ensures { result ≡ room_after room (flat_length (field_view value.now)) }

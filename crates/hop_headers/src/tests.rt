@@ -196,3 +196,10 @@ fn hops_of_a_chain(rt: HostRuntime) -> Result<(), Fail> {
     assert!(rt; wanted == table(alloc, BOUND_FROM_B_AND_C)?);
     Ok(())
 }
+
+#[test]
+fn texts(rt: HostRuntime) -> Result<(), Fail> {
+    let text = Text::new(String::from_str(rt.alloc(), "x")?);
+    assert_eq!(rt; text.clone()?.as_str(), "x");
+    Ok(())
+}

@@ -1,4 +1,4 @@
-use Rattle.std.proofs.Common.{◌+◌, drop, ◌∙◌, arith, rules}
+use Rattle.std.proofs.Common.{drop, ◌∙◌, arith, rules}
 use Rattle.std.proofs.lemmas.List.{drop_all}
 use Rattle.hop_headers.specs.Gate.{place, is_at}
 use Rattle.hop_headers.proofs.Loops.{from_item, any_go, any_stop, any_end}

@@ -1,4 +1,4 @@
-use Rattle.std.proofs.Common.{◌+◌, drop, ◌∙◌, arith, rules}
+use Rattle.std.proofs.Common.{drop, ◌∙◌, arith, rules}
 use Rattle.std.proofs.lemmas.List.{drop_all}
 use Rattle.hop_headers.specs.Hops.{names_place}
 use Rattle.hop_headers.proofs.Loops.{from_item, all_go, all_stop, all_end}

@@ -1,4 +1,4 @@
-use Rattle.std.proofs.Common.{◌≡◌, ℕ, List, false, Option, Some, None, refl, sym, ◌∙◌}
+use Rattle.std.proofs.Common.{◌≡◌, ℕ, List, false, Option, Some, None, refl, sym}
 use Rattle.hop_headers.specs.Names.{queue_name, exchange_name}
 use Rattle.hop_headers.specs.Hops.{text_at, object_with, object_at}
 use Rattle.hop_headers.specs.Stamps.{is_queue}
