@@ -1,0 +1,4 @@
+pub mod ArgumentLemmas
+pub mod BitLemmas
+pub mod CallLemmas
+pub mod RowLemmas

@@ -1,0 +1,5 @@
+pub mod Arguments
+pub mod Methods
+pub mod Reading
+pub mod Rows
+pub mod View
