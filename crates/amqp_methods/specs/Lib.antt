@@ -1,4 +1,5 @@
 pub mod Arguments
+pub mod Lent
 pub mod Methods
 pub mod Reading
 pub mod Rows

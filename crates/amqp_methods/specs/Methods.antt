@@ -12,10 +12,17 @@ pub record Call : Type 0 where
   pub id : ℕ
   pub arguments : List Argument
 
+abbrev pub call : ℕ → ℕ → List Argument → Call
+call class id arguments = record { class = class; id = id; arguments = arguments }
+
+-- Each argument of the method has a spelling.
+abbrev pub FitArguments : Call → Type 0
+FitArguments call = AllByRecursion HasSpelling call.arguments
+
 -- A method of the table of methods: its arguments have the kinds of its row, and each of them has a spelling.
 pub record IsCall (call : Call) : Type 0 where
   pub row : kinds_of call.class call.id ≡ Some (map kind_of call.arguments)
-  pub arguments : AllByRecursion HasSpelling call.arguments
+  pub arguments : FitArguments call
 
 -- the class and the id
 abbrev pub head_spelling : Call → List ℕ

@@ -4,7 +4,7 @@ use Rattle.std.specs.Int.{w16, w32, w64, from_be_bytes}
 use Rattle.field_tables.specs.Reading.{octet_at, number_at, counted_at, name_at, table_at}
 use Rattle.field_tables.specs.declared.fault.TableFault.{TableFault}
 use Rattle.amqp_methods.specs.Arguments.{Kind, Octet, Short, Long, LongLong, ShortString, LongString, Table, Bits, ReservedShort, ReservedShortString, ReservedLongString, ReservedBit, Argument, octet, short, long, longlong, short_string, long_string, table, bits, reserved_short, reserved_short_string, reserved_long_string, reserved_bit, bits_from}
-use Rattle.amqp_methods.specs.Methods.{Call}
+use Rattle.amqp_methods.specs.Methods.{Call, call}
 use Rattle.amqp_methods.specs.Rows.{kinds_of, any_copied}
 use Rattle.amqp_methods.specs.declared.fault.MethodFault.{MethodFault}
 use Rattle.amqp_methods.specs.declared.fault.MethodFault.TheVariants as faults
@@ -79,7 +79,7 @@ abbrev pub row_at : ℕ → ℕ → Option (List Kind) → List ℕ → Result C
 row_at class id None bytes = Err (faults.Unknown class id)
 row_at class id (Some kinds) bytes = do
   arguments ← arguments_at kinds 0 bytes
-  Ok (record { class = class; id = id; arguments = arguments })
+  Ok (call class id arguments)
 
 -- The method that a payload spells: its class and id, and its arguments.
 unfoldable pub call_at : List ℕ → Result Call MethodFault

@@ -3,12 +3,9 @@
 use Rattle.std.specs.Prelude.{ℕ, List, [], ◌∷◌, Bool, string_bytes}
 use Rattle.field_tables.specs.View.{table_view}
 use Rattle.amqp_methods.specs.Arguments.{Argument, octet, short, long, longlong, short_string, long_string, table, bits, reserved_short, reserved_short_string, reserved_long_string, reserved_bit}
-use Rattle.amqp_methods.specs.Methods.{Call}
+use Rattle.amqp_methods.specs.Methods.{Call, call}
 use Rattle.amqp_methods.specs.declared.method.Method.{Method}
 use Rattle.amqp_methods.specs.declared.method.Method.TheVariants as methods
-
-abbrev pub call : ℕ → ℕ → List Argument → Call
-call class id arguments = record { class = class; id = id; arguments = arguments }
 
 unfoldable pub call_of : Method → Call
 call_of (methods.ConnectionStart version_major version_minor server_properties mechanisms locales) = call 10 10 (octet version_major ∷ octet version_minor ∷ table (table_view server_properties) ∷ long_string mechanisms.items ∷ long_string locales.items ∷ [])

@@ -1,9 +1,9 @@
 //! Payloads and methods: each row of the table of methods once, and its arms of the reader and the writer.
 
-ghost use Rattle.std.specs.Prelude.{◌≡◌, List, ℕ, [], take, drop, true, false, IfOk, IsTrue, IsErrOf, Ok};
+ghost use Rattle.std.specs.Prelude.{◌≡◌, ◌++◌, List, ℕ, [], OnOk, take, drop, true, false, IfOk, IsTrue, IsErrOf, Ok};
 ghost use Rattle.std.specs.Int.{w16, from_be_bytes};
 ghost use Rattle.field_tables.specs.Reading.{number_at};
-ghost use Rattle.amqp_methods.specs.Methods.{Call, IsCall, SpellsCall};
+ghost use Rattle.amqp_methods.specs.Methods.{Call, IsCall, SpellsCall, FitArguments, call_spelling};
 ghost use Rattle.amqp_methods.specs.Rows.{kinds_in, kinds_of, any_copied, connection_rows, channel_rows, exchange_rows, queue_rows, basic_rows, confirm_rows, tx_rows};
 ghost use Rattle.amqp_methods.specs.View.{call_of};
 ghost use Rattle.amqp_methods.specs.Reading.{Gives, otherwise, row_at, call_at, copies};
@@ -14,7 +14,8 @@ use crate::arguments::{
 };
 use crate::fault::MethodFault;
 use crate::method::Method;
-use std::alloc::Global;
+use crate::spelling::{Argument, put_call};
+use std::alloc::{AllocError, Global};
 
 /// The rows of class 10, connection.
 macro_rules! connection_rows {
@@ -309,6 +310,82 @@ fn read_tx(alloc: Global, id: u16, bytes: &[u8]) -> Result<Method, MethodFault>
         (row_at 90 id (kinds_in tx_rows id) bytes.now) }
 {
     tx_rows!(read_rows alloc 90 id bytes)
+}
+
+/// The pattern of a row's variant, with its arguments' names.
+macro_rules! row_fields {
+    ($variant:ident [$($field:ident)*]) => { Method::$variant { $($field),* } };
+    ($variant:ident [$($done:ident)*] $place:literal bits { $($number:literal $bit:ident),* } $(, $($more:tt)*)?) => {
+        row_fields!($variant [$($done)* $($bit)*] $($($more)*)?)
+    };
+    ($variant:ident [$($done:ident)*] $place:literal $kind:ident $field:ident $(, $($more:tt)*)?) => {
+        row_fields!($variant [$($done)* $field] $($($more)*)?)
+    };
+    ($variant:ident [$($done:ident)*] $place:literal $reserved:ident $(, $($more:tt)*)?) => {
+        row_fields!($variant [$($done)*] $($($more)*)?)
+    };
+}
+
+/// An arm of the writer: the method's class and id, and its arguments.
+macro_rules! write_row {
+    ($out:ident $class:literal $id:literal [$($done:expr,)*]) => {
+        put_call($class, $id, &[$($done),*], $out)
+    };
+    ($out:ident $class:literal $id:literal [$($done:expr,)*] $place:literal octet $field:ident $(, $($more:tt)*)?) => {
+        write_row!($out $class $id [$($done,)* Argument::Octet(*$field),] $($($more)*)?)
+    };
+    ($out:ident $class:literal $id:literal [$($done:expr,)*] $place:literal short $field:ident $(, $($more:tt)*)?) => {
+        write_row!($out $class $id [$($done,)* Argument::Short(*$field),] $($($more)*)?)
+    };
+    ($out:ident $class:literal $id:literal [$($done:expr,)*] $place:literal long $field:ident $(, $($more:tt)*)?) => {
+        write_row!($out $class $id [$($done,)* Argument::Long(*$field),] $($($more)*)?)
+    };
+    ($out:ident $class:literal $id:literal [$($done:expr,)*] $place:literal longlong $field:ident $(, $($more:tt)*)?) => {
+        write_row!($out $class $id [$($done,)* Argument::LongLong(*$field),] $($($more)*)?)
+    };
+    ($out:ident $class:literal $id:literal [$($done:expr,)*] $place:literal short_string $field:ident $(, $($more:tt)*)?) => {
+        write_row!($out $class $id [$($done,)* Argument::ShortString($field.as_str()),] $($($more)*)?)
+    };
+    ($out:ident $class:literal $id:literal [$($done:expr,)*] $place:literal long_string $field:ident $(, $($more:tt)*)?) => {
+        write_row!($out $class $id [$($done,)* Argument::LongString($field.as_slice()),] $($($more)*)?)
+    };
+    ($out:ident $class:literal $id:literal [$($done:expr,)*] $place:literal table $field:ident $(, $($more:tt)*)?) => {
+        write_row!($out $class $id [$($done,)* Argument::Table($field),] $($($more)*)?)
+    };
+    ($out:ident $class:literal $id:literal [$($done:expr,)*] $place:literal bits { $($number:literal $bit:ident),* } $(, $($more:tt)*)?) => {
+        write_row!($out $class $id [$($done,)* Argument::Bits(&[$(*$bit),*]),] $($($more)*)?)
+    };
+    ($out:ident $class:literal $id:literal [$($done:expr,)*] $place:literal reserved_short $(, $($more:tt)*)?) => {
+        write_row!($out $class $id [$($done,)* Argument::ReservedShort,] $($($more)*)?)
+    };
+    ($out:ident $class:literal $id:literal [$($done:expr,)*] $place:literal reserved_short_string $(, $($more:tt)*)?) => {
+        write_row!($out $class $id [$($done,)* Argument::ReservedShortString,] $($($more)*)?)
+    };
+    ($out:ident $class:literal $id:literal [$($done:expr,)*] $place:literal reserved_long_string $(, $($more:tt)*)?) => {
+        write_row!($out $class $id [$($done,)* Argument::ReservedLongString,] $($($more)*)?)
+    };
+    ($out:ident $class:literal $id:literal [$($done:expr,)*] $place:literal reserved_bit $(, $($more:tt)*)?) => {
+        write_row!($out $class $id [$($done,)* Argument::ReservedBit,] $($($more)*)?)
+    };
+}
+
+/// The writer: an arm for each row.
+macro_rules! write_rows {
+    ($method:ident $out:ident $($class:literal $id:literal $variant:ident { $($arguments:tt)* })*) => {
+        match $method {
+            $(row_fields!($variant [] $($arguments)*) => {
+                write_row!($out $class $id [] $($arguments)*)
+            })*
+        }
+    };
+}
+
+#[tactic(auto, unfolding(crate::specs::View::call_of))]
+fn put_method(method: &Method, out: &mut Vec<u8>) -> Result<(), AllocError>
+    requires { FitArguments (call_of method.now) }
+    ensures { OnOk result (out.new.items ≡ out.old.items ++ call_spelling (call_of method.now)) }
+{
+    connection_rows!(channel_rows exchange_rows queue_rows basic_rows confirm_rows tx_rows write_rows method out)
 }
 
 /// The method of that class and id, whose arguments are all of the octets.

@@ -4,6 +4,7 @@
 mod arguments;
 mod fault;
 mod method;
+mod spelling;
 mod codec;
 
 pub use codec::read_method;
