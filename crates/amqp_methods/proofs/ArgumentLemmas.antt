@@ -90,10 +90,10 @@ argument_takes ShortString shares = value_takes _ _ name_at name_reads short_str
 argument_takes LongString shares = value_takes _ _ counted_at counted_reads long_string LongString (record { spells = λ a h. refl; has = λ a h. h; kind_is = λ a. refl })
 argument_takes Table shares = table_argument
 argument_takes (Bits n) shares = value_takes _ _ octet_at octet_reads (λ shared. bits (bits_from 0 n shared)) (Bits n) (record {
-      spells = λ a h. (a, h, ap (λ (m : ℕ). bits_from 0 m a) (length-bits_from 0 n a), refl);
-      has = λ a h. omega (arith, length-bits_from 0 n a, shares);
-      kind_is = λ a. ap Bits (length-bits_from 0 n a);
-    })
+  spells = λ a h. (a, h, ap (λ (m : ℕ). bits_from 0 m a) (length-bits_from 0 n a), refl);
+  has = λ a h. omega (arith, length-bits_from 0 n a, shares);
+  kind_is = λ a. ap Bits (length-bits_from 0 n a);
+})
 argument_takes ReservedShort shares = value_takes _ _ (number_at w16) (number_reads w16 (2 ^ 16) wide16) (λ _. reserved_short) ReservedShort (record { spells = λ a h. (a, h, refl); has = λ a h. tt; kind_is = λ a. refl })
 argument_takes ReservedShortString shares = value_takes _ _ name_at name_reads (λ _. reserved_short_string) ReservedShortString (record { spells = λ a h. (a, h, refl); has = λ a h. tt; kind_is = λ a. refl })
 argument_takes ReservedLongString shares = value_takes _ _ counted_at counted_reads (λ _. reserved_long_string) ReservedLongString (record { spells = λ a h. (a, h, refl); has = λ a h. tt; kind_is = λ a. refl })

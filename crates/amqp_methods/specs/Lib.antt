@@ -3,4 +3,5 @@ pub mod Lent
 pub mod Methods
 pub mod Reading
 pub mod Rows
+pub mod Table
 pub mod View

@@ -95,11 +95,7 @@ pub fn short_string_of(bytes: &[u8], place: usize) -> Result<(&str, &[u8]), Meth
 }
 
 /// A short string of its own, and the octets after it.
-pub fn string_of(
-    alloc: Global,
-    bytes: &[u8],
-    place: usize,
-) -> Result<(String, &[u8]), MethodFault>
+pub fn string_of(alloc: Global, bytes: &[u8], place: usize) -> Result<(String, &[u8]), MethodFault>
     ensures { Gives true (λ x. (string_bytes x.0, x.1.now)) result (in_place place (name_at bytes.now)) }
 {
     let (text, rest) = short_string_of(bytes, place)?;
@@ -107,11 +103,7 @@ pub fn string_of(
 }
 
 /// A long string of its own, and the octets after it.
-pub fn vec_of(
-    alloc: Global,
-    bytes: &[u8],
-    place: usize,
-) -> Result<(Vec<u8>, &[u8]), MethodFault>
+pub fn vec_of(alloc: Global, bytes: &[u8], place: usize) -> Result<(Vec<u8>, &[u8]), MethodFault>
     ensures { Gives true (λ x. (x.0.items, x.1.now)) result (in_place place (counted_at bytes.now)) }
 {
     let (octets, rest) = long_string_of(bytes, place)?;
@@ -119,11 +111,7 @@ pub fn vec_of(
 }
 
 /// A table, and the octets after it.
-pub fn table_of(
-    alloc: Global,
-    bytes: &[u8],
-    place: usize,
-) -> Result<(Table, &[u8]), MethodFault>
+pub fn table_of(alloc: Global, bytes: &[u8], place: usize) -> Result<(Table, &[u8]), MethodFault>
     ensures { Gives true (λ x. (table_view x.0, x.1.now)) result
         (rest_after bytes.now (in_place place (table_at bytes.now))) }
 {

@@ -1,6 +1,6 @@
 //! Payloads and methods: each row of the table of methods once, and its arms of the reader and the writer.
 
-ghost use Rattle.std.specs.Prelude.{◌≡◌, ◌++◌, List, ℕ, [], OnOk, take, drop, true, false, IfOk, IsTrue, IsErrOf, Ok};
+ghost use Rattle.std.specs.Prelude.{◌≡◌, ◌++◌, List, ℕ, [], OnOk, OnErr, take, drop, true, false, IfOk, IsTrue, IsErrOf, Ok};
 ghost use Rattle.std.specs.Int.{w16, from_be_bytes};
 ghost use Rattle.field_tables.specs.Reading.{number_at};
 ghost use Rattle.amqp_methods.specs.Methods.{Call, IsCall, SpellsCall, FitArguments, call_spelling};
@@ -447,4 +447,24 @@ pub fn read_method(alloc: Global, payload: &[u8]) -> Result<Method, MethodFault>
     ensures memory { IsErrOf result MethodFault.Memory → IsTrue (copies payload.now) }
 {
     payload_of(alloc, payload)
+}
+
+/// Appends the payload of a method whose arguments have a spelling; after an error `out` is as it was.
+///
+/// Reserved arguments are written as 0 or empty, and unused bits as 0. The octets are made apart, in one pass, and then
+/// appended. AMQP 0-9-1, 2.3.5.1 "Method Frames" and 4.2.4 "Method Payloads".
+pub fn write_method(method: &Method, out: &mut Vec<u8>) -> Result<(), AllocError>
+    requires { FitArguments (call_of method.now) }
+
+    ensures ok { OnOk result
+        (out.new.items ≡ out.old.items ++ call_spelling (call_of method.now)) }
+    ensures err { OnErr result (out.new.items ≡ out.old.items) }
+
+    // What is written spells the method, and so is read again.
+    ensures spells { OnOk result (IsCall (call_of method.now)
+        × SpellsCall (call_of method.now) (call_spelling (call_of method.now))) }
+{
+    let mut octets = Vec::new(*out.allocator());
+    put_method(method, &mut octets)?;
+    out.extend_from_slice(&octets)
 }

@@ -2,11 +2,18 @@
 #![tactic(auto)]
 
 mod arguments;
-mod fault;
-mod method;
-mod spelling;
 mod codec;
+mod fault;
+mod laws;
+mod method;
+mod rows;
+mod spelling;
 
-pub use codec::read_method;
+pub use codec::{read_method, write_method};
 pub use fault::MethodFault;
+pub use laws::methods;
 pub use method::Method;
+pub use rows::{METHODS, Row, find};
+
+#[cfg(test)]
+mod tests;
