@@ -61,18 +61,10 @@ queue_rows =
     ∷ (51, [])
     ∷ []
 
--- class 60, basic: qos, qos-ok, consume, consume-ok, cancel, cancel-ok, publish, return, deliver, get, get-ok, get-empty, ack, reject, recover-async, recover, recover-ok, nack
-abbrev pub basic_rows : List (ℕ × List Kind)
-basic_rows =
-    (10, Long ∷ Short ∷ Bits 1 ∷ [])
-    ∷ (11, [])
-    ∷ (20, ReservedShort ∷ ShortString ∷ ShortString ∷ Bits 4 ∷ Table ∷ [])
-    ∷ (21, ShortString ∷ [])
-    ∷ (30, ShortString ∷ Bits 1 ∷ [])
-    ∷ (31, ShortString ∷ [])
-    ∷ (40, ReservedShort ∷ ShortString ∷ ShortString ∷ Bits 2 ∷ [])
-    ∷ (50, Short ∷ ShortString ∷ ShortString ∷ ShortString ∷ [])
-    ∷ (60, ShortString ∷ LongLong ∷ Bits 1 ∷ ShortString ∷ ShortString ∷ [])
+-- class 60, basic, the second part: deliver, get, get-ok, get-empty, ack, reject, recover-async, recover, recover-ok, nack
+abbrev pub delivery_rows : List (ℕ × List Kind)
+delivery_rows =
+    (60, ShortString ∷ LongLong ∷ Bits 1 ∷ ShortString ∷ ShortString ∷ [])
     ∷ (70, ReservedShort ∷ ShortString ∷ Bits 1 ∷ [])
     ∷ (71, LongLong ∷ Bits 1 ∷ ShortString ∷ ShortString ∷ Long ∷ [])
     ∷ (72, ReservedShortString ∷ [])
@@ -83,6 +75,19 @@ basic_rows =
     ∷ (111, [])
     ∷ (120, LongLong ∷ Bits 2 ∷ [])
     ∷ []
+
+-- class 60, basic: qos, qos-ok, consume, consume-ok, cancel, cancel-ok, publish, return, and the second part
+abbrev pub basic_rows : List (ℕ × List Kind)
+basic_rows =
+    (10, Long ∷ Short ∷ Bits 1 ∷ [])
+    ∷ (11, [])
+    ∷ (20, ReservedShort ∷ ShortString ∷ ShortString ∷ Bits 4 ∷ Table ∷ [])
+    ∷ (21, ShortString ∷ [])
+    ∷ (30, ShortString ∷ Bits 1 ∷ [])
+    ∷ (31, ShortString ∷ [])
+    ∷ (40, ReservedShort ∷ ShortString ∷ ShortString ∷ Bits 2 ∷ [])
+    ∷ (50, Short ∷ ShortString ∷ ShortString ∷ ShortString ∷ [])
+    ∷ delivery_rows
 
 -- class 85, confirm: select, select-ok
 abbrev pub confirm_rows : List (ℕ × List Kind)

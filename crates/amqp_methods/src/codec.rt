@@ -4,7 +4,7 @@ ghost use Rattle.std.specs.Prelude.{◌≡◌, ◌++◌, List, ℕ, [], OnOk, On
 ghost use Rattle.std.specs.Int.{w16, from_be_bytes};
 ghost use Rattle.field_tables.specs.Reading.{number_at};
 ghost use Rattle.amqp_methods.specs.Methods.{Call, IsCall, SpellsCall, FitArguments, call_spelling};
-ghost use Rattle.amqp_methods.specs.Rows.{kinds_in, kinds_of, any_copied, connection_rows, channel_rows, exchange_rows, queue_rows, basic_rows, confirm_rows, tx_rows};
+ghost use Rattle.amqp_methods.specs.Rows.{kinds_in, kinds_of, any_copied, connection_rows, channel_rows, exchange_rows, queue_rows, basic_rows, delivery_rows, confirm_rows, tx_rows};
 ghost use Rattle.amqp_methods.specs.View.{call_of};
 ghost use Rattle.amqp_methods.specs.Reading.{Gives, otherwise, row_at, call_at, copies};
 
@@ -124,7 +124,7 @@ macro_rules! queue_rows {
     };
 }
 
-/// The rows of class 60, basic.
+/// The rows of class 60, basic, up to return.
 macro_rules! basic_rows {
     ($next:ident $($before:tt)*) => {
         $next! { $($before)*
@@ -145,6 +145,14 @@ macro_rules! basic_rows {
                 0 short reply_code, 1 short_string reply_text, 2 short_string exchange,
                 3 short_string routing_key
             }
+        }
+    };
+}
+
+/// The rows of class 60, basic, from deliver on.
+macro_rules! delivery_rows {
+    ($next:ident $($before:tt)*) => {
+        $next! { $($before)*
             60 60 BasicDeliver {
                 0 short_string consumer_tag, 1 longlong delivery_tag, 2 bits { 0 redelivered },
                 3 short_string exchange, 4 short_string routing_key
@@ -189,69 +197,52 @@ macro_rules! tx_rows {
     };
 }
 
+/// Reads an argument of that kind; of a reserved one only its form.
+macro_rules! read_argument {
+    ($alloc:ident $rest:ident $place:literal octet) => { octet_of($rest, $place) };
+    ($alloc:ident $rest:ident $place:literal short) => { short_of($rest, $place) };
+    ($alloc:ident $rest:ident $place:literal long) => { long_of($rest, $place) };
+    ($alloc:ident $rest:ident $place:literal longlong) => { longlong_of($rest, $place) };
+    ($alloc:ident $rest:ident $place:literal short_string) => { string_of($alloc, $rest, $place) };
+    ($alloc:ident $rest:ident $place:literal long_string) => { vec_of($alloc, $rest, $place) };
+    ($alloc:ident $rest:ident $place:literal table) => { table_of($alloc, $rest, $place) };
+    ($alloc:ident $rest:ident $place:literal reserved_short) => { short_of($rest, $place) };
+    ($alloc:ident $rest:ident $place:literal reserved_short_string) => { short_string_of($rest, $place) };
+    ($alloc:ident $rest:ident $place:literal reserved_long_string) => { long_string_of($rest, $place) };
+    ($alloc:ident $rest:ident $place:literal reserved_bit) => { octet_of($rest, $place) };
+}
+
 /// An arm of the reader: the arguments one after the other, nothing after them, and the variant.
 macro_rules! read_row {
     ($alloc:ident $rest:ident $variant:ident [$($field:ident)*]) => {{
         end_of($rest)?;
         Ok(Method::$variant { $($field),* })
     }};
-    ($alloc:ident $rest:ident $variant:ident [$($done:ident)*] $place:literal octet $field:ident $(, $($more:tt)*)?) => {{
-        let ($field, rest) = octet_of($rest, $place)?;
-        read_row!($alloc rest $variant [$($done)* $field] $($($more)*)?)
-    }};
-    ($alloc:ident $rest:ident $variant:ident [$($done:ident)*] $place:literal short $field:ident $(, $($more:tt)*)?) => {{
-        let ($field, rest) = short_of($rest, $place)?;
-        read_row!($alloc rest $variant [$($done)* $field] $($($more)*)?)
-    }};
-    ($alloc:ident $rest:ident $variant:ident [$($done:ident)*] $place:literal long $field:ident $(, $($more:tt)*)?) => {{
-        let ($field, rest) = long_of($rest, $place)?;
-        read_row!($alloc rest $variant [$($done)* $field] $($($more)*)?)
-    }};
-    ($alloc:ident $rest:ident $variant:ident [$($done:ident)*] $place:literal longlong $field:ident $(, $($more:tt)*)?) => {{
-        let ($field, rest) = longlong_of($rest, $place)?;
-        read_row!($alloc rest $variant [$($done)* $field] $($($more)*)?)
-    }};
-    ($alloc:ident $rest:ident $variant:ident [$($done:ident)*] $place:literal short_string $field:ident $(, $($more:tt)*)?) => {{
-        let ($field, rest) = string_of($alloc, $rest, $place)?;
-        read_row!($alloc rest $variant [$($done)* $field] $($($more)*)?)
-    }};
-    ($alloc:ident $rest:ident $variant:ident [$($done:ident)*] $place:literal long_string $field:ident $(, $($more:tt)*)?) => {{
-        let ($field, rest) = vec_of($alloc, $rest, $place)?;
-        read_row!($alloc rest $variant [$($done)* $field] $($($more)*)?)
-    }};
-    ($alloc:ident $rest:ident $variant:ident [$($done:ident)*] $place:literal table $field:ident $(, $($more:tt)*)?) => {{
-        let ($field, rest) = table_of($alloc, $rest, $place)?;
-        read_row!($alloc rest $variant [$($done)* $field] $($($more)*)?)
-    }};
-    ($alloc:ident $rest:ident $variant:ident [$($done:ident)*] $place:literal bits { $($number:literal $bit:ident),* } $(, $($more:tt)*)?) => {{
+    ($alloc:ident $rest:ident $variant:ident [$($done:ident)*]
+        $place:literal bits { $($number:literal $bit:ident),* } $(, $($more:tt)*)?) => {{
         let (shared, rest) = octet_of($rest, $place)?;
         $(let $bit = bit_of(shared, $number);)*
         read_row!($alloc rest $variant [$($done)* $($bit)*] $($($more)*)?)
     }};
-    ($alloc:ident $rest:ident $variant:ident [$($done:ident)*] $place:literal reserved_short $(, $($more:tt)*)?) => {{
-        let (_, rest) = short_of($rest, $place)?;
-        read_row!($alloc rest $variant [$($done)*] $($($more)*)?)
+    ($alloc:ident $rest:ident $variant:ident [$($done:ident)*]
+        $place:literal $kind:ident $field:ident $(, $($more:tt)*)?) => {{
+        let ($field, rest) = read_argument!($alloc $rest $place $kind)?;
+        read_row!($alloc rest $variant [$($done)* $field] $($($more)*)?)
     }};
-    ($alloc:ident $rest:ident $variant:ident [$($done:ident)*] $place:literal reserved_short_string $(, $($more:tt)*)?) => {{
-        let (_, rest) = short_string_of($rest, $place)?;
-        read_row!($alloc rest $variant [$($done)*] $($($more)*)?)
-    }};
-    ($alloc:ident $rest:ident $variant:ident [$($done:ident)*] $place:literal reserved_long_string $(, $($more:tt)*)?) => {{
-        let (_, rest) = long_string_of($rest, $place)?;
-        read_row!($alloc rest $variant [$($done)*] $($($more)*)?)
-    }};
-    ($alloc:ident $rest:ident $variant:ident [$($done:ident)*] $place:literal reserved_bit $(, $($more:tt)*)?) => {{
-        let (_, rest) = octet_of($rest, $place)?;
+    ($alloc:ident $rest:ident $variant:ident [$($done:ident)*]
+        $place:literal $reserved:ident $(, $($more:tt)*)?) => {{
+        let (_, rest) = read_argument!($alloc $rest $place $reserved)?;
         read_row!($alloc rest $variant [$($done)*] $($($more)*)?)
     }};
 }
 
 /// The reader of a class: an arm for each of its rows.
 macro_rules! read_rows {
-    ($alloc:ident $class:literal $id:ident $bytes:ident $($c:literal $row:literal $variant:ident { $($arguments:tt)* })*) => {
+    ($alloc:ident $id:ident $bytes:ident ($other:expr)
+        $($class:literal $row:literal $variant:ident { $($arguments:tt)* })*) => {
         match $id {
             $($row => read_row!($alloc $bytes $variant [] $($arguments)*),)*
-            _ => Err(MethodFault::Unknown($class, $id)),
+            _ => $other,
         }
     };
 }
@@ -261,7 +252,7 @@ fn read_connection(alloc: Global, id: u16, bytes: &[u8]) -> Result<Method, Metho
     ensures { Gives (any_copied (kinds_in connection_rows id)) call_of result
         (row_at 10 id (kinds_in connection_rows id) bytes.now) }
 {
-    connection_rows!(read_rows alloc 10 id bytes)
+    connection_rows!(read_rows alloc id bytes (Err(MethodFault::Unknown(10, id))))
 }
 
 #[tactic(auto, unfolding(crate::specs::View::call_of))]
@@ -269,7 +260,7 @@ fn read_channel(alloc: Global, id: u16, bytes: &[u8]) -> Result<Method, MethodFa
     ensures { Gives (any_copied (kinds_in channel_rows id)) call_of result
         (row_at 20 id (kinds_in channel_rows id) bytes.now) }
 {
-    channel_rows!(read_rows alloc 20 id bytes)
+    channel_rows!(read_rows alloc id bytes (Err(MethodFault::Unknown(20, id))))
 }
 
 #[tactic(auto, unfolding(crate::specs::View::call_of))]
@@ -277,7 +268,7 @@ fn read_exchange(alloc: Global, id: u16, bytes: &[u8]) -> Result<Method, MethodF
     ensures { Gives (any_copied (kinds_in exchange_rows id)) call_of result
         (row_at 40 id (kinds_in exchange_rows id) bytes.now) }
 {
-    exchange_rows!(read_rows alloc 40 id bytes)
+    exchange_rows!(read_rows alloc id bytes (Err(MethodFault::Unknown(40, id))))
 }
 
 #[tactic(auto, unfolding(crate::specs::View::call_of))]
@@ -285,7 +276,7 @@ fn read_queue(alloc: Global, id: u16, bytes: &[u8]) -> Result<Method, MethodFaul
     ensures { Gives (any_copied (kinds_in queue_rows id)) call_of result
         (row_at 50 id (kinds_in queue_rows id) bytes.now) }
 {
-    queue_rows!(read_rows alloc 50 id bytes)
+    queue_rows!(read_rows alloc id bytes (Err(MethodFault::Unknown(50, id))))
 }
 
 #[tactic(auto, unfolding(crate::specs::View::call_of))]
@@ -293,7 +284,15 @@ fn read_basic(alloc: Global, id: u16, bytes: &[u8]) -> Result<Method, MethodFaul
     ensures { Gives (any_copied (kinds_in basic_rows id)) call_of result
         (row_at 60 id (kinds_in basic_rows id) bytes.now) }
 {
-    basic_rows!(read_rows alloc 60 id bytes)
+    basic_rows!(read_rows alloc id bytes (read_delivery(alloc, id, bytes)))
+}
+
+#[tactic(auto, unfolding(crate::specs::View::call_of))]
+fn read_delivery(alloc: Global, id: u16, bytes: &[u8]) -> Result<Method, MethodFault>
+    ensures { Gives (any_copied (kinds_in delivery_rows id)) call_of result
+        (row_at 60 id (kinds_in delivery_rows id) bytes.now) }
+{
+    delivery_rows!(read_rows alloc id bytes (Err(MethodFault::Unknown(60, id))))
 }
 
 #[tactic(auto, unfolding(crate::specs::View::call_of))]
@@ -301,7 +300,7 @@ fn read_confirm(alloc: Global, id: u16, bytes: &[u8]) -> Result<Method, MethodFa
     ensures { Gives (any_copied (kinds_in confirm_rows id)) call_of result
         (row_at 85 id (kinds_in confirm_rows id) bytes.now) }
 {
-    confirm_rows!(read_rows alloc 85 id bytes)
+    confirm_rows!(read_rows alloc id bytes (Err(MethodFault::Unknown(85, id))))
 }
 
 #[tactic(auto, unfolding(crate::specs::View::call_of))]
@@ -309,7 +308,7 @@ fn read_tx(alloc: Global, id: u16, bytes: &[u8]) -> Result<Method, MethodFault>
     ensures { Gives (any_copied (kinds_in tx_rows id)) call_of result
         (row_at 90 id (kinds_in tx_rows id) bytes.now) }
 {
-    tx_rows!(read_rows alloc 90 id bytes)
+    tx_rows!(read_rows alloc id bytes (Err(MethodFault::Unknown(90, id))))
 }
 
 /// The pattern of a row's variant, with its arguments' names.
@@ -326,56 +325,34 @@ macro_rules! row_fields {
     };
 }
 
-/// An arm of the writer: the method's class and id, and its arguments.
-macro_rules! write_row {
-    ($out:ident $class:literal $id:literal [$($done:expr,)*]) => {
-        put_call($class, $id, &[$($done),*], $out)
-    };
-    ($out:ident $class:literal $id:literal [$($done:expr,)*] $place:literal octet $field:ident $(, $($more:tt)*)?) => {
-        write_row!($out $class $id [$($done,)* Argument::Octet(*$field),] $($($more)*)?)
-    };
-    ($out:ident $class:literal $id:literal [$($done:expr,)*] $place:literal short $field:ident $(, $($more:tt)*)?) => {
-        write_row!($out $class $id [$($done,)* Argument::Short(*$field),] $($($more)*)?)
-    };
-    ($out:ident $class:literal $id:literal [$($done:expr,)*] $place:literal long $field:ident $(, $($more:tt)*)?) => {
-        write_row!($out $class $id [$($done,)* Argument::Long(*$field),] $($($more)*)?)
-    };
-    ($out:ident $class:literal $id:literal [$($done:expr,)*] $place:literal longlong $field:ident $(, $($more:tt)*)?) => {
-        write_row!($out $class $id [$($done,)* Argument::LongLong(*$field),] $($($more)*)?)
-    };
-    ($out:ident $class:literal $id:literal [$($done:expr,)*] $place:literal short_string $field:ident $(, $($more:tt)*)?) => {
-        write_row!($out $class $id [$($done,)* Argument::ShortString($field.as_str()),] $($($more)*)?)
-    };
-    ($out:ident $class:literal $id:literal [$($done:expr,)*] $place:literal long_string $field:ident $(, $($more:tt)*)?) => {
-        write_row!($out $class $id [$($done,)* Argument::LongString($field.as_slice()),] $($($more)*)?)
-    };
-    ($out:ident $class:literal $id:literal [$($done:expr,)*] $place:literal table $field:ident $(, $($more:tt)*)?) => {
-        write_row!($out $class $id [$($done,)* Argument::Table($field),] $($($more)*)?)
-    };
-    ($out:ident $class:literal $id:literal [$($done:expr,)*] $place:literal bits { $($number:literal $bit:ident),* } $(, $($more:tt)*)?) => {
-        write_row!($out $class $id [$($done,)* Argument::Bits(&[$(*$bit),*]),] $($($more)*)?)
-    };
-    ($out:ident $class:literal $id:literal [$($done:expr,)*] $place:literal reserved_short $(, $($more:tt)*)?) => {
-        write_row!($out $class $id [$($done,)* Argument::ReservedShort,] $($($more)*)?)
-    };
-    ($out:ident $class:literal $id:literal [$($done:expr,)*] $place:literal reserved_short_string $(, $($more:tt)*)?) => {
-        write_row!($out $class $id [$($done,)* Argument::ReservedShortString,] $($($more)*)?)
-    };
-    ($out:ident $class:literal $id:literal [$($done:expr,)*] $place:literal reserved_long_string $(, $($more:tt)*)?) => {
-        write_row!($out $class $id [$($done,)* Argument::ReservedLongString,] $($($more)*)?)
-    };
-    ($out:ident $class:literal $id:literal [$($done:expr,)*] $place:literal reserved_bit $(, $($more:tt)*)?) => {
-        write_row!($out $class $id [$($done,)* Argument::ReservedBit,] $($($more)*)?)
-    };
+/// An argument of that kind, lent; a reserved one is written as 0 or empty.
+macro_rules! lend_argument {
+    (octet $field:ident) => { Argument::Octet(*$field) };
+    (short $field:ident) => { Argument::Short(*$field) };
+    (long $field:ident) => { Argument::Long(*$field) };
+    (longlong $field:ident) => { Argument::LongLong(*$field) };
+    (short_string $field:ident) => { Argument::ShortString($field.as_str()) };
+    (long_string $field:ident) => { Argument::LongString($field.as_slice()) };
+    (table $field:ident) => { Argument::Table($field) };
+    (bits { $($number:literal $bit:ident),* }) => { Argument::Bits(&[$(*$bit),*]) };
+    (reserved_short) => { Argument::ReservedShort };
+    (reserved_short_string) => { Argument::ReservedShortString };
+    (reserved_long_string) => { Argument::ReservedLongString };
+    (reserved_bit) => { Argument::ReservedBit };
 }
 
-/// The writer: an arm for each row.
+/// The writer: an arm for each row, with the method's class and id, and its arguments.
 macro_rules! write_rows {
-    ($method:ident $out:ident $($class:literal $id:literal $variant:ident { $($arguments:tt)* })*) => {
+    ($method:ident $out:ident $($class:literal $id:literal $variant:ident {
+        $($place:literal $kind:ident $($name:ident)? $({ $($bits:tt)* })?),*
+    })*) => {
         match $method {
-            $(row_fields!($variant [] $($arguments)*) => {
-                write_row!($out $class $id [] $($arguments)*)
-            })*
+            $(row_fields!($variant [] $($place $kind $($name)? $({ $($bits)* })?),*) => put_call(
+                $class,
+                $id,
+                &[$(lend_argument!($kind $($name)? $({ $($bits)* })?)),*],
+                $out,
+            ),)*
         }
     };
 }
@@ -385,7 +362,7 @@ fn put_method(method: &Method, out: &mut Vec<u8>) -> Result<(), AllocError>
     requires { FitArguments (call_of method.now) }
     ensures { OnOk result (out.new.items ≡ out.old.items ++ call_spelling (call_of method.now)) }
 {
-    connection_rows!(channel_rows exchange_rows queue_rows basic_rows confirm_rows tx_rows write_rows method out)
+    connection_rows!(channel_rows exchange_rows queue_rows basic_rows delivery_rows confirm_rows tx_rows write_rows method out)
 }
 
 /// The method of that class and id, whose arguments are all of the octets.

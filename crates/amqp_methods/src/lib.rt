@@ -11,7 +11,7 @@ mod spelling;
 
 pub use codec::{read_method, write_method};
 pub use fault::MethodFault;
-pub use laws::methods;
+pub use laws::{rows_are_methods, rows_are_once};
 pub use method::Method;
 pub use rows::{METHODS, Row, find};
 

@@ -107,9 +107,10 @@ fn bits(rt: HostRuntime) {
 
 #[test]
 fn table_of_methods(rt: HostRuntime) {
-    let rows = methods();
-    assert_eq!(rt; find(rows, 60, 40), Some(42));
-    assert_eq!(rt; rows[42].args, "szzbb");
+    rows_are_methods();
+    rows_are_once();
+    assert_eq!(rt; find(&METHODS, 60, 40), Some(42));
+    assert_eq!(rt; METHODS[42].letters(), b"szzbb".as_slice());
     assert_eq!(rt; find(&METHODS, 30, 10), None);
 }
 
