@@ -1,16 +1,14 @@
 -- An argument that is read is one that its octets spell, and what spells an argument is read again.
-use Rattle.std.proofs.Common.{◌≡◌, ℕ, zero, suc, ◌+◌, ◌^◌, ◌<◌, ◌≤◌, Bool, List, [], ◌∷◌, ◌++◌, length, take, drop, Result, Ok, Err, refl, sym, ap, subst, ◌∙◌, append_assoc, arith}
-use Rattle.std.specs.Prelude.{map}
-use Rattle.std.specs.List.{AllByRecursion}
-use Rattle.std.specs.Int.{w16, w32, w64, to_be_bytes}
+use Rattle.std.proofs.Common.{◌≡◌, ℕ, ◌^◌, ◌≤◌, List, ◌++◌, length, drop, Result, Ok, Err, refl, sym, ap, subst, ◌∙◌, arith}
+use Rattle.std.specs.Int.{w16, w32, w64}
 use Rattle.std.proofs.lemmas.List.{drop_at}
 use Rattle.field_tables.specs.Fields.{Pairs}
-use Rattle.field_tables.specs.Tables.{IsName, IsCounted, name_spelling, counted_spelling, table_spelling}
+use Rattle.field_tables.specs.Tables.{table_spelling}
 use Rattle.field_tables.specs.Reading.{octet_at, number_at, counted_at, name_at, table_at}
 use Rattle.field_tables.specs.declared.fault.TableFault.{TableFault}
-use Rattle.field_tables.proofs.Octets.{IsBytes, Takes, Reads, octet_reads, number_reads, counted_reads, name_reads, counted_text, wide16, wide32, wide64}
+use Rattle.field_tables.proofs.Octets.{IsBytes, Reads, octet_reads, number_reads, counted_reads, name_reads, counted_text, wide16, wide32, wide64}
 use Rattle.field_tables.proofs.Values.{table_takes, table_again}
-use Rattle.amqp_methods.specs.Arguments.{Kind, Octet, Short, Long, LongLong, ShortString, LongString, Table, Bits, ReservedShort, ReservedShortString, ReservedLongString, ReservedBit, Argument, octet, short, long, longlong, short_string, long_string, table, bits, reserved_short, reserved_short_string, reserved_long_string, reserved_bit, kind_of, bits_from, HasSpelling, Spells, SpellAll, written}
+use Rattle.amqp_methods.specs.Arguments.{Kind, Octet, Short, Long, LongLong, ShortString, LongString, Table, Bits, ReservedShort, ReservedShortString, ReservedLongString, ReservedBit, Argument, octet, short, long, longlong, short_string, long_string, table, bits, reserved_short, reserved_short_string, reserved_long_string, reserved_bit, kind_of, bits_from, HasSpelling, Spells}
 use Rattle.amqp_methods.specs.Reading.{◌>>=◌, otherwise, in_place, as_argument, rest_after, argument_at}
 use Rattle.amqp_methods.specs.declared.fault.MethodFault.{MethodFault}
 use Rattle.amqp_methods.proofs.BitLemmas.{length-bits_from}

@@ -1,5 +1,5 @@
 -- A method that is read is one that the payload spells, and a payload that spells a method is read as that method.
-use Rattle.std.proofs.Common.{◌≡◌, ℕ, zero, suc, ◌+◌, ◌^◌, ◌<◌, ◌≤◌, Bool, true, false, IsTrue, cond, eqb, List, [], ◌∷◌, ◌++◌, length, Option, Some, None, Result, Ok, Err, refl, sym, ap, subst, ◌∙◌, append_assoc, arith}
+use Rattle.std.proofs.Common.{◌≡◌, ℕ, ◌+◌, ◌^◌, ◌<◌, List, [], ◌∷◌, ◌++◌, Option, Some, None, Result, Ok, Err, refl, sym, ap, subst, ◌∙◌, append_assoc, arith}
 use Rattle.std.specs.Prelude.{map, IfOk}
 use Rattle.std.specs.List.{AllByRecursion}
 use Rattle.std.specs.Int.{w16, to_be_bytes}
@@ -7,9 +7,9 @@ use Rattle.std.proofs.lemmas.List.Concat.{flat_map-cons}
 use Rattle.std.proofs.lemmas.Str.{IsUtf8-nil}
 use Rattle.field_tables.specs.Reading.{number_at}
 use Rattle.field_tables.proofs.Octets.{IsBytes, number_reads, wide16}
-use Rattle.amqp_methods.specs.Arguments.{Kind, Octet, Short, Long, LongLong, ShortString, LongString, Table, Bits, ReservedShort, ReservedShortString, ReservedLongString, ReservedBit, Argument, octet, short, long, longlong, short_string, long_string, table, bits, reserved_short, reserved_short_string, reserved_long_string, reserved_bit, kind_of, HasSpelling, Spells, SpellAll, written, bits_octet, arguments_spelling}
+use Rattle.amqp_methods.specs.Arguments.{Kind, Argument, octet, short, long, longlong, short_string, long_string, table, bits, reserved_short, reserved_short_string, reserved_long_string, reserved_bit, kind_of, HasSpelling, Spells, SpellAll, written, bits_octet, arguments_spelling}
 use Rattle.amqp_methods.specs.Rows.{kinds_of}
-use Rattle.amqp_methods.specs.Methods.{Call, IsCall, SpellsCall, head_spelling, call_spelling}
+use Rattle.amqp_methods.specs.Methods.{Call, IsCall, SpellsCall, call_spelling}
 use Rattle.amqp_methods.specs.View.{call_of}
 use Rattle.amqp_methods.specs.declared.method.Method.{Method}
 use Rattle.amqp_methods.specs.Reading.{◌>>=◌, Gives, otherwise, places, argument_at, end_at, arguments_at, row_at, call_at, copies}

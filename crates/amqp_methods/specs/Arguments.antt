@@ -1,6 +1,6 @@
 -- The arguments of a method: their kinds, what octets may stand for each, and those that are written.
 -- AMQP 0-9-1, 4.2.1 "Formal Protocol Grammar" (arguments) and 4.2.5 "AMQP Data Fields".
-use Rattle.std.specs.Prelude.{ℕ, zero, suc, ◌+◌, ◌*◌, ◌/◌, ◌%◌, ◌^◌, ◌<◌, ◌≤◌, ◌≡◌, ◌==◌, Bool, true, false, List, [], ◌∷◌, ◌++◌, length}
+use Rattle.std.specs.Prelude.{ℕ, zero, suc, ◌+◌, ◌*◌, ◌/◌, ◌%◌, ◌^◌, ◌<◌, ◌≤◌, ◌≡◌, ◌==◌, Bool, List, [], ◌∷◌, ◌++◌, length}
 use Rattle.std.specs.List.{flat_map}
 use Rattle.std.specs.Int.{w16, w32, w64, to_be_bytes, from_bool}
 use Rattle.field_tables.specs.Fields.{Pairs}

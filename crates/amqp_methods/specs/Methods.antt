@@ -1,6 +1,6 @@
 -- What a method's payload is: the class and id of its row, and a spelling of each argument.
 -- AMQP 0-9-1, 2.3.5.1 "Method Frames" and 4.2.4 "Method Payloads".
-use Rattle.std.specs.Prelude.{ℕ, ◌≡◌, List, ◌++◌, map, Option, Some}
+use Rattle.std.specs.Prelude.{ℕ, ◌≡◌, List, ◌++◌, map, Some}
 use Rattle.std.specs.List.{AllByRecursion}
 use Rattle.std.specs.Int.{w16, to_be_bytes}
 use Rattle.amqp_methods.specs.Arguments.{Argument, kind_of, HasSpelling, SpellAll, arguments_spelling}

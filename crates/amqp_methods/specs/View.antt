@@ -1,8 +1,8 @@
 -- The methods that a value of the program stands for.
 -- AMQP 0-9-1, the class and method reference, with RabbitMQ's extensions: each method's class and id, and its arguments.
-use Rattle.std.specs.Prelude.{ℕ, List, [], ◌∷◌, Bool, string_bytes}
+use Rattle.std.specs.Prelude.{[], ◌∷◌, string_bytes}
 use Rattle.field_tables.specs.View.{table_view}
-use Rattle.amqp_methods.specs.Arguments.{Argument, octet, short, long, longlong, short_string, long_string, table, bits, reserved_short, reserved_short_string, reserved_long_string, reserved_bit}
+use Rattle.amqp_methods.specs.Arguments.{octet, short, long, longlong, short_string, long_string, table, bits, reserved_short, reserved_short_string, reserved_long_string, reserved_bit}
 use Rattle.amqp_methods.specs.Methods.{Call, call}
 use Rattle.amqp_methods.specs.declared.method.Method.{Method}
 use Rattle.amqp_methods.specs.declared.method.Method.TheVariants as methods

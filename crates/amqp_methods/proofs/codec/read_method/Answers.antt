@@ -1,6 +1,6 @@
-use Rattle.std.proofs.Common.{ap, subst, sym, ◌∙◌, arith}
+use Rattle.std.proofs.Common.{subst, arith}
 use Rattle.amqp_methods.specs.View.{call_of}
-use Rattle.amqp_methods.specs.Reading.{Gives, call_at, copies}
+use Rattle.amqp_methods.specs.Reading.{Gives, copies}
 use Rattle.amqp_methods.proofs.CallLemmas.{is_found, call_again}
 use Rattle.amqp_methods.proofs.codec.read_method.Goals as goal
 
