@@ -138,7 +138,8 @@ fn with_publication(alloc: Global) -> Result<Vec<Entry>, AllocError>
 fn with_consumer(alloc: Global) -> Result<Vec<Entry>, AllocError>
     ensures { IfOk result (λ journal. All IsNumbered journal.items) }
 {
-    let mut journal = with_publication(alloc)?;
+    let mut journal = Vec::new(alloc);
+    journal.push(Entry::Published(publication(alloc)?))?;
     journal.push(consumed(alloc)?)?;
     journal.push(delivered(alloc)?)?;
     Ok(journal)
