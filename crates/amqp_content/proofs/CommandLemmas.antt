@@ -17,25 +17,25 @@ use Rattle.amqp_content.proofs.FrameLemmas.{IsOpened, opened_takes, opened_again
 
 -- ---- lists
 
-each_append : {A : Type 0} (P : A → Type 0) (xs ys : List A) → AllByRecursion P xs → AllByRecursion P ys → AllByRecursion P (xs ++ ys)
+pub each_append : {A : Type 0} (P : A → Type 0) (xs ys : List A) → AllByRecursion P xs → AllByRecursion P ys → AllByRecursion P (xs ++ ys)
 each_append P [] ys ps qs = qs
 each_append P (x ∷ xs) ys ps qs = (ps.0, each_append P xs ys ps.1 qs)
 
-each_at : {A : Type 0} (P : A → Type 0) (xs : List A) (y : A) (ys : List A) → AllByRecursion P (xs ++ y ∷ ys) → P y
+pub each_at : {A : Type 0} (P : A → Type 0) (xs : List A) (y : A) (ys : List A) → AllByRecursion P (xs ++ y ∷ ys) → P y
 each_at P [] y ys ps = ps.0
 each_at P (x ∷ xs) y ys ps = each_at P xs y ys ps.1
 
-not_nil : {A : Type 0} (xs : List A) (x : A) → [] ≡ xs ++ x ∷ [] → ⊥
+pub not_nil : {A : Type 0} (xs : List A) (x : A) → [] ≡ xs ++ x ∷ [] → ⊥
 not_nil [] x e = absurd cc
 not_nil (y ∷ xs) x e = absurd cc
 
 nil_not : {A : Type 0} (xs : List A) (x : A) → xs ++ x ∷ [] ≡ [] → ⊥
 nil_not xs x e = not_nil xs x (sym e)
 
-cons_tail : {A : Type 0} (x y : A) (xs ys : List A) → x ∷ xs ≡ y ∷ ys → xs ≡ ys
+pub cons_tail : {A : Type 0} (x y : A) (xs ys : List A) → x ∷ xs ≡ y ∷ ys → xs ≡ ys
 cons_tail x y xs ys e = cc
 
-cons_head : {A : Type 0} (x y : A) (xs ys : List A) → x ∷ xs ≡ y ∷ ys → x ≡ y
+pub cons_head : {A : Type 0} (x y : A) (xs ys : List A) → x ∷ xs ≡ y ∷ ys → x ≡ y
 cons_head x y xs ys e = cc
 
 before_last : {A : Type 0} (xs ys : List A) (x y : A) → xs ++ x ∷ [] ≡ ys ++ y ∷ [] → xs ≡ ys
@@ -61,7 +61,7 @@ makes_first frame part are e =
     subst (λ content. Makes part.method content (frame ∷ [])) (sym t.content) (record { first = frame; are = refl; method = t.method })
 
 -- no body frame yet
-no_bodies : (size : ℕ) → AreBodyFrames size [] []
+pub no_bodies : (size : ℕ) → AreBodyFrames size [] []
 no_bodies size = record { kinds = tt; octets = refl; needed = λ before last e. absurd (not_nil before last e) }
 
 makes_header : (call : Call) (frames : List Frame) (frame : Frame) (part : Open) → IsBytes frame.payload → has_content call ≡ true → IsMethodAlone call frames → with_next call None frame ≡ Ok part
@@ -82,7 +82,7 @@ makes_header call frames frame part are carries alone e =
       bodies_are = subst (λ (body : List ℕ). AreBodyFrames received.size body []) (sym t.2.body) (no_bodies received.size);
     }, omega (arith, ap (λ (body : List ℕ). length body) t.2.body))
 
-one_more_body : (size : ℕ) (body : List ℕ) (bodies : List Frame) (frame : Frame) → AreBodyFrames size body bodies → length body < size → frame.kind ≡ 3
+pub one_more_body : (size : ℕ) (body : List ℕ) (bodies : List Frame) (frame : Frame) → AreBodyFrames size body bodies → length body < size → frame.kind ≡ 3
     → AreBodyFrames size (body ++ frame.payload) (bodies ++ frame ∷ [])
 one_more_body size body bodies frame are missing kind = record {
   kinds = each_append (λ (f : Frame). f.kind ≡ 3) bodies (frame ∷ []) are.kinds (kind, tt);

@@ -20,6 +20,12 @@ fate x = Ok x
 fate_is : (x y : Fate) → fate x ≡ fate y → x ≡ y
 fate_is x y e = cc
 
+some_not : (v : Whole) → Some v ≡ None → ⊥
+some_not v e = absurd cc
+
+none_not : (v : Whole) → None ≡ Some v → ⊥
+none_not v e = absurd cc
+
 some_whole : (v w : Whole) → Some v ≡ Some w → v ≡ w
 some_whole v w e = cc
 
@@ -31,9 +37,6 @@ Meant frames new frame None = AreOpen frame.channel (frames ++ frame ∷ []) new
 meant_whole : (frames : List Frame) (new : Option Open) (frame : Frame) (answer : Option Command) (part : Open) → IsTaken frame.channel (frames ++ frame ∷ []) part → is_whole part ≡ true
     → fate (None, Some (whole frame.channel part)) ≡ Ok (new, option_map whole_of answer) → Meant frames new frame answer
 meant_whole frames new frame None part t w e = absurd (some_not (whole frame.channel part) (ap (λ (x : Fate). x.1) (fate_is (None, Some (whole frame.channel part)) (new, None) e)))
-  where
-    some_not : (v : Whole) → Some v ≡ None → ⊥
-    some_not v e = absurd cc
 meant_whole frames new frame (Some command) part t w e =
     let same : whole frame.channel part ≡ whole_of command = some_whole (whole frame.channel part) (whole_of command) (ap (λ (x : Fate). x.1) (fate_is (None, Some (whole frame.channel part)) (new, Some (whole_of command)) e)) in
     subst (IsCommand (frames ++ frame ∷ [])) same (is_command frame.channel part (frames ++ frame ∷ []) t.on t.makes w)
@@ -43,9 +46,6 @@ meant_part : (frames : List Frame) (new : Option Open) (frame : Frame) (answer :
 meant_part frames new frame None part t w e =
     subst (AreOpen frame.channel (frames ++ frame ∷ [])) (ap (λ (x : Fate). x.0) (fate_is (Some part, None) (new, None) e)) (stays_open frame.channel part (frames ++ frame ∷ []) t.on t.makes w)
 meant_part frames new frame (Some command) part t w e = absurd (none_not (whole_of command) (ap (λ (x : Fate). x.1) (fate_is (Some part, None) (new, Some (whole_of command)) e)))
-  where
-    none_not : (v : Whole) → None ≡ Some v → ⊥
-    none_not v e = absurd cc
 
 meant_by : (frames : List Frame) (new : Option Open) (frame : Frame) (answer : Option Command) (part : Open) (done : Bool) → IsTaken frame.channel (frames ++ frame ∷ []) part → is_whole part ≡ done
     → cond done (fate (None, Some (whole frame.channel part))) (fate (Some part, None)) ≡ Ok (new, option_map whole_of answer) → Meant frames new frame answer
@@ -64,9 +64,6 @@ spells_answer frames old new frame None true are begun beats e =
     subst (λ b. AreOpen frame.channel (cond b frames (frames ++ frame ∷ [])) new) (sym beats)
     (subst (AreOpen frame.channel frames) (ap (λ (x : Fate). x.0) (fate_is (old, None) (new, None) e)) begun)
 spells_answer frames old new frame (Some command) true are begun beats e = absurd (none_not (whole_of command) (ap (λ (x : Fate). x.1) (fate_is (old, None) (new, Some (whole_of command)) e)))
-  where
-    none_not : (v : Whole) → None ≡ Some v → ⊥
-    none_not v e = absurd cc
 spells_answer frames old new frame None false are begun beats e =
     subst (λ b. AreOpen frame.channel (cond b frames (frames ++ frame ∷ [])) new) (sym beats) (settled_means frames old new frame None (taken old frame) are begun refl e)
 spells_answer frames old new frame (Some command) false are begun beats e = settled_means frames old new frame (Some command) (taken old frame) are begun refl e

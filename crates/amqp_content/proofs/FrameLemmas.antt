@@ -4,6 +4,8 @@ use Rattle.std.proofs.lemmas.Bool.{eqb-true, ltb-false, le-ltb}
 use Rattle.field_tables.proofs.Octets.{IsBytes}
 use Rattle.amqp_frames.specs.declared.frame.Frame.{Frame}
 use Rattle.amqp_props.specs.declared.properties.Properties.{Properties}
+use Rattle.amqp_props.specs.ContentHeader.{values_of}
+use Rattle.amqp_props.specs.HeaderReading.{header_at}
 use Rattle.amqp_props.specs.declared.fault.PropsFault.{PropsFault}
 use Rattle.amqp_methods.specs.declared.fault.MethodFault.{MethodFault}
 use Rattle.amqp_methods.specs.Methods.{Call}
@@ -15,12 +17,12 @@ use Rattle.amqp_content.specs.declared.part.TheConstants.{MAX_BODY}
 use Rattle.amqp_content.specs.Headers.{header_of}
 use Rattle.amqp_content.specs.Steps.{Received, Open, begun, from_call, opened_at, from_header, received_at, with_octets, with_content, with_next}
 use Rattle.amqp_content.specs.Commands.{IsMethodFrame, IsHeaderFrame}
-use Rattle.amqp_content.proofs.HeaderLemmas.{header_takes, header_of_spelling}
+use Rattle.amqp_content.proofs.HeaderLemmas.{properties_back, header_takes, header_of_spelling}
 
 abbrev done : {A : Type 0} → A → Result A ContentFault
 done x = Ok x
 
-ok_is : {A : Type 0} (x y : A) → done x ≡ done y → x ≡ y
+pub ok_is : {A : Type 0} (x y : A) → done x ≡ done y → x ≡ y
 ok_is x y e = cc
 
 -- tests that did not fail
@@ -81,6 +83,14 @@ unfolding received_at
 received_again frame size props is =
     let within : ltb MAX_BODY size ≡ false = le-ltb MAX_BODY size is.within in
     rw (is.spelled, header_of_spelling size props is.is_header, within) refl
+
+-- the content of a header that was read
+pub received_read : (payload : List ℕ) (size : ℕ) (props : Properties) (body : List ℕ) → header_at payload ≡ Ok (size, values_of props) → size ≤ MAX_BODY → body ≡ []
+    → received_at payload ≡ Ok (record { size = size; props = props; body = body })
+unfolding received_at header_of
+received_read payload size props body read le none =
+    let within : ltb MAX_BODY size ≡ false = le-ltb MAX_BODY size le in
+    rw (read, properties_back props, within, none) refl
 
 abbrev holding : Call → Received → Open
 holding call received = record { method = call; content = Some received }

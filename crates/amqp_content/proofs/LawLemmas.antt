@@ -10,7 +10,7 @@ use Rattle.amqp_methods.specs.Methods.{Call}
 use Rattle.amqp_content.specs.declared.fault.ContentFault.{ContentFault}
 use Rattle.amqp_content.specs.Steps.{Received, Open, Whole, has_content, begun, opened_at, with_next, with_frame, taken}
 use Rattle.amqp_content.specs.Commands.{IsMethodFrame, IsHeaderFrame, AreBodyFrames, IsMethodAlone, AreContent, AreOn, Spelled, IsCommand, Begins, AreOpen, NoCommand, payloads}
-use Rattle.amqp_content.proofs.FrameLemmas.{opened_again, header_again, body_again}
+use Rattle.amqp_content.proofs.FrameLemmas.{ok_is, opened_again, header_again, body_again}
 use Rattle.amqp_content.proofs.CommandLemmas.{each_append, each_at, cons_head, cons_tail, no_bodies, one_more_body}
 
 -- ---- the frames of a command, one by one
@@ -38,12 +38,12 @@ first_of frame more call None s = subst (IsMethodFrame call) (sym (cons_head fra
 first_of frame more call (Some content) s = subst (IsMethodFrame call) (sym (cons_head frame s.first more (s.header ∷ s.bodies) s.are)) s.method
 
 -- a command of two frames at least is one with content
+no_more : (frame : Frame) (more : List Frame) → frame ∷ more ≡ [] → ⊥
+no_more frame more e = absurd cc
+
 content_of : (first header : Frame) (bodies : List Frame) (call : Call) (content : Option (Properties × List ℕ)) → Spelled call content (first ∷ header ∷ bodies)
     → (x : Properties × List ℕ) × (content ≡ Some x) × Heads first header bodies call (length x.1) x.0 x.1
 content_of first header bodies call None s = absurd (no_more header bodies (cons_tail first s.1.first (header ∷ bodies) [] s.1.are))
-  where
-    no_more : (f : Frame) (fs : List Frame) → f ∷ fs ≡ [] → ⊥
-    no_more f fs e = absurd cc
 content_of first header bodies call (Some x) s = (x, refl, heads_of first header bodies call (length x.1) x.0 x.1 s)
 
 -- ---- a frame that is refused begins no command
@@ -102,11 +102,11 @@ frame_refused channel old frames frame fault part e more command is =
 abbrev done : Call → Result Open ContentFault
 done call = Ok (begun call)
 
+method_is : (c d : Call) → done c ≡ done d → c ≡ d
+method_is c d e = ap (λ (part : Open). part.method) (ok_is (begun c) (begun d) e)
+
 methods_agree : (frame : Frame) (c d : Call) → IsMethodFrame c frame → IsMethodFrame d frame → c ≡ d
 methods_agree frame c d one two = method_is c d (sym (opened_again frame c one) ∙ opened_again frame d two)
-  where
-    method_is : (c d : Call) → done c ≡ done d → c ≡ d
-    method_is c d e = cc
 
 abbrev some : Properties → List ℕ → Option (Properties × List ℕ)
 some props body = Some (props, body)
@@ -119,21 +119,18 @@ contents_agree first header bodies c d m n p q xs ys one two =
 heads_in : (frames : List Frame) (c : Call) (m : ℕ) (p : Properties) (xs : List ℕ) (s : AreContent c m p xs frames) → Heads s.first s.header s.bodies c m p xs
 heads_in frames c m p xs s = record { carries = s.carries; method = s.method; header_is = s.header_is; bodies_are = s.bodies_are }
 
+none_not : (x : Properties × List ℕ) → None ≡ Some x → ⊥
+none_not x e = absurd cc
+
 spelled_agree : (frames : List Frame) (c d : Call) (p q : Option (Properties × List ℕ)) → Spelled c p frames → Spelled d q frames → (c ≡ d) × (p ≡ q)
 spelled_agree frames c d None None one two =
     (methods_agree one.1.first c d one.1.method (first_of one.1.first [] d None (subst (λ (xs : List Frame). Spelled d None xs) one.1.are two)), refl)
 spelled_agree frames c d None (Some y) one two =
     let t = content_of two.first two.header two.bodies c None (subst (λ (xs : List Frame). Spelled c None xs) two.are one) in
     absurd (none_not t.0 t.1)
-  where
-    none_not : (x : Properties × List ℕ) → None ≡ Some x → ⊥
-    none_not x e = absurd cc
 spelled_agree frames c d (Some x) None one two =
     let t = content_of one.first one.header one.bodies d None (subst (λ (xs : List Frame). Spelled d None xs) one.are two) in
     absurd (none_not t.0 t.1)
-  where
-    none_not : (x : Properties × List ℕ) → None ≡ Some x → ⊥
-    none_not x e = absurd cc
 spelled_agree frames c d (Some x) (Some y) one two =
     let t = heads_of one.first one.header one.bodies d (length y.1) y.0 y.1 (subst (AreContent d (length y.1) y.0 y.1) one.are two) in
     let both = contents_agree one.first one.header one.bodies c d (length x.1) (length y.1) x.0 y.0 x.1 y.1 (heads_in frames c (length x.1) x.0 x.1 one) t in
@@ -155,26 +152,23 @@ one_command frames v w one two =
 
 -- ---- a part of a command
 
+differ : (a b : Bool) → a ≡ true → b ≡ false → a ≡ b → ⊥
+differ a b e f g = absurd cc
+
+cons_not_nil : (frame : Frame) (more : List Frame) → [] ≡ frame ∷ more → ⊥
+cons_not_nil frame more e = absurd cc
+
+alone_not : (f g h : Frame) (bodies : List Frame) → f ∷ [] ≡ g ∷ h ∷ bodies → ⊥
+alone_not f g h bodies e = cons_not_nil h bodies (cons_tail f g [] (h ∷ bodies) e)
+
 part_is_none : (call : Call) (content : Option Received) (frames : List Frame) (d : Call) (q : Option (Properties × List ℕ)) → Begins call content frames → Spelled d q frames → ⊥
 part_is_none call None frames d None begins two =
     let same : call ≡ d = methods_agree begins.1.first call d begins.1.method (first_of begins.1.first [] d None (subst (λ (xs : List Frame). Spelled d None xs) begins.1.are two)) in
     differ (has_content call) (has_content d) begins.0 two.0 (ap has_content same)
-  where
-    differ : (a b : Bool) → a ≡ true → b ≡ false → a ≡ b → ⊥
-    differ a b e f g = absurd cc
 part_is_none call None frames d (Some y) begins two = alone_not begins.1.first two.first two.header two.bodies (sym begins.1.are ∙ two.are)
-  where
-    alone_not : (f g h : Frame) (bodies : List Frame) → f ∷ [] ≡ g ∷ h ∷ bodies → ⊥
-    alone_not f g h bodies e = absurd (nil_not h bodies (cons_tail f g [] (h ∷ bodies) e))
-      where
-        nil_not : (h : Frame) (bodies : List Frame) → [] ≡ h ∷ bodies → ⊥
-        nil_not h bodies e = absurd cc
 part_is_none call (Some received) frames d None begins two =
     let t = content_of begins.0.first begins.0.header begins.0.bodies d None (subst (λ (xs : List Frame). Spelled d None xs) begins.0.are two) in
     absurd (none_not t.0 t.1)
-  where
-    none_not : (x : Properties × List ℕ) → None ≡ Some x → ⊥
-    none_not x e = absurd cc
 part_is_none call (Some received) frames d (Some y) begins two =
     let one = begins.0 in
     let t = heads_of one.first one.header one.bodies d (length y.1) y.0 y.1 (subst (AreContent d (length y.1) y.0 y.1) one.are two) in

@@ -1,4 +1,5 @@
 pub mod HeaderLemmas
+pub mod MethodLemmas
 pub mod FrameLemmas
 pub mod CommandLemmas
 pub mod LawLemmas

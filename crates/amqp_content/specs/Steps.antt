@@ -81,9 +81,13 @@ is_full (Some received) = length received.body == received.size
 unfoldable pub is_whole : Open → Bool
 is_whole part = if has_content part.method then is_full part.content else true
 
+-- properties and body
+abbrev pub content_of : Option Received → Option (Properties × List ℕ)
+content_of received = option_map (λ r. (r.props, r.body)) received
+
 -- the command, with nothing missing
 abbrev pub whole : ℕ → Open → Whole
-whole channel part = record { channel = channel; method = part.method; content = option_map (λ received. (received.props, received.body)) part.content }
+whole channel part = record { channel = channel; method = part.method; content = content_of part.content }
 
 -- the frame as the next one of its channel, of whose command this much came
 abbrev pub taken : Option Open → Frame → Result Open ContentFault

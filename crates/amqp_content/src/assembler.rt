@@ -37,6 +37,7 @@ impl Assembler {
     /// # Errors
     ///
     /// What is wrong with the frame; nothing of its channel's command is kept then. Want of memory changes nothing.
+    #[tactic(auto, unfolding(crate::specs::Steps::feed_frame))]
     pub fn feed(&mut self, frame: Frame) -> Result<Option<Command>, ContentFault>
         ensures exact { Fed (part_of frame.channel self.old) (part_of frame.channel self.new) frame result }
         ensures others { (channel : ℕ) → channel ≢ frame.channel → part_of channel self.new ≡ part_of channel self.old }
@@ -54,6 +55,7 @@ impl Assembler {
     }
 
     /// `feed` on a channel of which no command is open.
+    #[tactic(auto, unfolding(crate::specs::Steps::feed_frame))]
     fn begin(&mut self, frame: &Frame) -> Result<Option<Command>, ContentFault>
         requires part { part_of frame.now.channel self.old ≡ None }
         requires counts { is_heartbeat frame.now ≡ false }
@@ -69,6 +71,7 @@ impl Assembler {
     }
 
     /// `feed` on a channel of which a command is open.
+    #[tactic(auto, unfolding(crate::specs::Steps::feed_frame))]
     fn go_on(&mut self, frame: &Frame) -> Result<Option<Command>, ContentFault>
         requires part { IsSome (part_of frame.now.channel self.old) }
         requires counts { is_heartbeat frame.now ≡ false }

@@ -1,7 +1,8 @@
 //! Commands of which frames are missing.
-ghost use Rattle.std.specs.Prelude.{◌≡◌, ◌==◌, length, option_map, OnOk, OnErr};
+ghost use Rattle.std.specs.Prelude.{◌≡◌, ◌==◌, ℕ, List, length, option_map, OnOk, OnErr};
+ghost use Rattle.amqp_props.specs.declared.properties.Properties.{Properties};
 ghost use Rattle.amqp_methods.specs.View.{call_of};
-ghost use Rattle.amqp_content.specs.Steps.{Gives, has_content, received_at, opened_at, with_octets, with_frame, is_whole, whole};
+ghost use Rattle.amqp_content.specs.Steps.{Gives, has_content, received_at, opened_at, with_octets, with_frame, is_whole, content_of, whole};
 ghost use Rattle.amqp_content.specs.View.{received_of, open_of, whole_of};
 
 use crate::command::Command;
@@ -45,6 +46,7 @@ pub(crate) fn has_content(method: &Method) -> bool
 }
 
 /// The content that a content header begins.
+#[tactic(auto, unfolding(crate::specs::Steps::received_at, crate::specs::Headers::header_of))]
 fn begin_content(alloc: Global, payload: &[u8]) -> Result<Content, ContentFault>
     ensures { Gives received_of result (received_at payload.now) }
 {
@@ -61,7 +63,8 @@ fn begin_content(alloc: Global, payload: &[u8]) -> Result<Content, ContentFault>
 
 /// Properties and body.
 fn into_content(content: Option<Content>) -> Option<(Properties, Vec<u8>)>
-    ensures { option_map (λ x. (x.0, x.1.items)) result ≡ option_map (λ x. (x.props, x.body.items)) content }
+    ensures { option_map {U = Properties × List ℕ} (λ x. (x.0, x.1.items)) result
+        ≡ content_of (option_map received_of content) }
 {
     match content {
         Some(content) => Some((content.props, content.body)),
@@ -71,6 +74,7 @@ fn into_content(content: Option<Content>) -> Option<(Properties, Vec<u8>)>
 
 impl Content {
     /// Adds the octets of a body frame. An error changes nothing.
+    #[tactic(auto, unfolding(crate::specs::Steps::with_octets))]
     fn add(&mut self, octets: &[u8]) -> Result<(), ContentFault>
         ensures gives { Gives (λ _. received_of self.new) result (with_octets (received_of self.old) octets.now) }
         ensures err { OnErr result (received_of self.new ≡ received_of self.old) }
@@ -93,6 +97,7 @@ impl Content {
 
 impl Part {
     /// The part that a channel's first frame begins.
+    #[tactic(auto, unfolding(crate::specs::Steps::opened_at))]
     pub fn begin(alloc: Global, frame: &Frame) -> Result<Part, ContentFault>
         ensures { Gives open_of result (opened_at frame.now) }
     {
@@ -107,6 +112,7 @@ impl Part {
     }
 
     /// Adds the channel's next frame. An error changes nothing.
+    #[tactic(auto, unfolding(crate::specs::Steps::with_frame))]
     pub fn add(&mut self, alloc: Global, frame: &Frame) -> Result<(), ContentFault>
         ensures gives { Gives (λ _. open_of self.new) result (with_frame (open_of self.old) frame.now) }
         ensures err { OnErr result (open_of self.new ≡ open_of self.old) }
@@ -141,6 +147,7 @@ impl Part {
     }
 
     /// Whether no frame is missing.
+    #[tactic(auto, unfolding(crate::specs::Steps::is_whole))]
     pub fn is_whole(&self) -> bool
         ensures { result ≡ is_whole (open_of self.now) }
     {
