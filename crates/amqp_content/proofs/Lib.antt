@@ -4,3 +4,4 @@ pub mod FrameLemmas
 pub mod CommandLemmas
 pub mod LawLemmas
 pub mod FedLemmas
+pub mod OnlyLemmas

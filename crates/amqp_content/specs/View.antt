@@ -47,6 +47,13 @@ Spells frames new frame (Ok None) = AreOpen frame.channel (counted frames frame)
 Spells frames new frame (Err Memory) = AreOpen frame.channel frames new
 Spells frames new frame (Err fault) = NoCommand (frames ++ frame ∷ [])
 
+-- The answer is this command, unless memory ran out.
+abbrev pub IsAnswer : Whole → Result (Option Command) ContentFault → Type 0
+IsAnswer whole (Ok (Some command)) = whole_of command ≡ whole
+IsAnswer whole (Ok None) = ⊥
+IsAnswer whole (Err Memory) = Unit {0}
+IsAnswer whole (Err fault) = ⊥
+
 -- What came of adding a frame to an open command: whether it is whole now.
 abbrev pub Added : Option Open → Option Open → Frame → Result Bool ContentFault → Type 0
 Added old new frame (Ok whole) = (part : Open) × (taken old frame ≡ Ok part) × (new ≡ Some part) × (whole ≡ is_whole part)

@@ -1,9 +1,9 @@
 //! Commands of a stream of frames.
-ghost use Rattle.std.specs.Prelude.{◌≡◌, ◌≢◌, ℕ, false, List, None, IsSome};
+ghost use Rattle.std.specs.Prelude.{◌≡◌, ◌≢◌, ℕ, ◌<◌, false, List, [], ◌∷◌, ◌++◌, None, slice_index, IsSome};
 ghost use Rattle.amqp_frames.specs.declared.frame.Frame.{Frame};
-ghost use Rattle.amqp_content.specs.Commands.{AreOpen};
-ghost use Rattle.amqp_content.specs.Steps.{is_heartbeat};
-ghost use Rattle.amqp_content.specs.View.{part_of, Fed, Spells, Added};
+ghost use Rattle.amqp_content.specs.Commands.{AreOpen, IsCommand};
+ghost use Rattle.amqp_content.specs.Steps.{Whole, is_heartbeat};
+ghost use Rattle.amqp_content.specs.View.{part_of, Fed, Spells, IsAnswer, Added};
 
 use crate::command::Command;
 use crate::fault::ContentFault;
@@ -39,11 +39,20 @@ impl Assembler {
     /// What is wrong with the frame; nothing of its channel's command is kept then. Want of memory changes nothing.
     #[tactic(auto, unfolding(crate::specs::Steps::feed_frame))]
     pub fn feed(&mut self, frame: Frame) -> Result<Option<Command>, ContentFault>
+        // What the frame makes of its channel's part, or which fault it is.
         ensures exact { Fed (part_of frame.channel self.old) (part_of frame.channel self.new) frame result }
         ensures others { (channel : ℕ) → channel ≢ frame.channel → part_of channel self.new ≡ part_of channel self.old }
+
+        // What is answered is spelled by the channel's frames: a command, or a part of one; a fault where no command
+        // begins so.
         ensures spells { (frames : List Frame) → AreOpen frame.channel frames (part_of frame.channel self.old)
             → Spells frames (part_of frame.channel self.new) frame result }
+
+        // A command that the channel's frames spell is answered, unless memory runs out.
+        ensures only { (frames : List Frame) (command : Whole) → AreOpen frame.channel frames (part_of frame.channel self.old)
+            → IsCommand (frames ++ frame ∷ []) command → IsAnswer command result }
     {
+        octets_fit(frame.payload.as_slice());
         if is_heartbeat(&frame) {
             return Ok(None);
         }
@@ -108,6 +117,11 @@ impl Assembler {
         }
     }
 }
+
+/// An octet is below 256: what the proof of `feed` needs to know of a payload.
+fn octets_fit(octets: &[u8])
+    ensures { (i : ℕ) → slice_index octets.now i < 256 }
+{}
 
 /// Whether the frame only keeps the connection alive.
 fn is_heartbeat(frame: &Frame) -> bool
