@@ -70,17 +70,19 @@ unfolding Makes
 makes_header call frames frame part are carries alone e =
     let t = header_next call frame part are e in
     let received = t.0 in
-    subst (λ (o : Open). Makes o.method o.content (frames ++ frame ∷ [])) t.1
-    (record {
-      first = alone.first;
-      header = frame;
-      bodies = [];
-      are = ap (λ (xs : List Frame). xs ++ frame ∷ []) alone.are;
-      carries = carries;
-      method = alone.method;
-      header_is = t.2.header;
-      bodies_are = subst (λ (body : List ℕ). AreBodyFrames received.size body []) (sym t.2.body) (no_bodies received.size);
-    }, omega (arith, ap (λ (body : List ℕ). length body) t.2.body))
+    subst (λ (o : Open). Makes o.method o.content (frames ++ frame ∷ [])) t.1 (
+      record {
+        first = alone.first;
+        header = frame;
+        bodies = [];
+        are = ap (λ (xs : List Frame). xs ++ frame ∷ []) alone.are;
+        carries = carries;
+        method = alone.method;
+        header_is = t.2.header;
+        bodies_are = subst (λ (body : List ℕ). AreBodyFrames received.size body []) (sym t.2.body) (no_bodies received.size);
+      },
+      omega (arith, ap (λ (body : List ℕ). length body) t.2.body),
+    )
 
 pub one_more_body : (size : ℕ) (body : List ℕ) (bodies : List Frame) (frame : Frame) → AreBodyFrames size body bodies → length body < size → frame.kind ≡ 3
     → AreBodyFrames size (body ++ frame.payload) (bodies ++ frame ∷ [])
@@ -98,17 +100,19 @@ makes_body : (call : Call) (received : Received) (frames : List Frame) (frame : 
 unfolding Makes
 makes_body call received frames frame part content missing e =
     let t = body_next call received frame part e in
-    subst (λ (o : Open). Makes o.method o.content (frames ++ frame ∷ [])) t.is
-    (record {
-      first = content.first;
-      header = content.header;
-      bodies = content.bodies ++ frame ∷ [];
-      are = ap (λ (xs : List Frame). xs ++ frame ∷ []) content.are;
-      carries = content.carries;
-      method = content.method;
-      header_is = content.header_is;
-      bodies_are = one_more_body received.size received.body content.bodies frame content.bodies_are missing t.kind;
-    }, omega (arith, t.within, length-append received.body frame.payload))
+    subst (λ (o : Open). Makes o.method o.content (frames ++ frame ∷ [])) t.is (
+      record {
+        first = content.first;
+        header = content.header;
+        bodies = content.bodies ++ frame ∷ [];
+        are = ap (λ (xs : List Frame). xs ++ frame ∷ []) content.are;
+        carries = content.carries;
+        method = content.method;
+        header_is = content.header_is;
+        bodies_are = one_more_body received.size received.body content.bodies frame content.bodies_are missing t.kind;
+      },
+      omega (arith, t.within, length-append received.body frame.payload),
+    )
 
 makes_next : (call : Call) (content : Option Received) (frames : List Frame) (frame : Frame) (part : Open) → IsBytes frame.payload → Begins call content frames → with_next call content frame ≡ Ok part
     → Makes part.method part.content (frames ++ frame ∷ [])

@@ -231,9 +231,11 @@ continues_alone channel call frames on carries alone =
       method = alone.method;
       header_is = record { kind = refl; is_header = empty_header; within = omega arith; spelled = refl };
       bodies_are = no_bodies 0;
-    } in
-    (frame ∷ [], record { channel = channel; method = call; content = Some (no_props, []) },
-      record { channel = each_append (λ (f : Frame). f.channel ≡ channel) frames (frame ∷ []) on (refl, tt); spelled = content })
+    } in (
+      frame ∷ [],
+      record { channel = channel; method = call; content = Some (no_props, []) },
+      record { channel = each_append (λ (f : Frame). f.channel ≡ channel) frames (frame ∷ []) on (refl, tt); spelled = content },
+    )
 
 body_frame : ℕ → ℕ → Frame
 body_frame channel n = record { kind = 3; channel = channel; payload = octets_of n }
@@ -255,12 +257,14 @@ continues_content channel call received frames on s missing =
       method = s.method;
       header_is = s.header_is;
       bodies_are = one_more_body received.size received.body s.bodies frame s.bodies_are missing refl;
-    } in
-    (frame ∷ [], record { channel = channel; method = call; content = Some (received.props, body) },
+    } in (
+      frame ∷ [],
+      record { channel = channel; method = call; content = Some (received.props, body) },
       record {
         channel = each_append (λ (f : Frame). f.channel ≡ channel) frames (frame ∷ []) on (refl, tt);
         spelled = subst (λ (size : ℕ). AreContent call size received.props body (frames ++ frame ∷ [])) len content;
-      })
+      },
+    )
 
 continues_by : (channel : ℕ) (call : Call) (content : Option Received) (frames : List Frame) → AreOn channel frames → Begins call content frames → Continues channel frames
 continues_by channel call None frames on begins = continues_alone channel call frames on begins.0 begins.1

@@ -26,7 +26,7 @@ bodies_low (frame ∷ frames) are = (omega (arith, are.0), bodies_low frames are
 
 spelled_low : (frames : List Frame) (call : Call) (content : Option (Properties × List ℕ)) → Spelled call content frames → Low frames
 spelled_low frames call None s = subst Low (sym s.1.are) (omega (arith, s.1.method.kind), tt)
-spelled_low frames call (Some content) s = subst Low (sym s.are) (omega (arith, s.method.kind), omega (arith, s.header_is.kind), bodies_low s.bodies s.bodies_are.kinds)
+spelled_low frames call (Some content) s = subst Low (sym s.are) (omega (arith, s.method.kind), (omega (arith, s.header_is.kind), bodies_low s.bodies s.bodies_are.kinds))
 
 both_first : (a b : Bool) → (a && b) ≡ true → a ≡ true
 both_first true b e = refl
