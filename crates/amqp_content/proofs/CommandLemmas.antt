@@ -1,19 +1,16 @@
 -- The frames of a channel, step by step, are a part of a command or a whole one; and where a frame is refused, no command
 -- begins so.
-use Rattle.std.proofs.Common.{◌≡◌, ℕ, ◌+◌, ◌<◌, ◌≤◌, Bool, true, false, cond, eqb, List, [], ◌∷◌, ◌++◌, length, Option, Some, None, Result, Ok, Err, refl, sym, ap, subst, ◌∙◌, append_assoc, arith, length-append}
+use Rattle.std.proofs.Common.{◌≡◌, ℕ, ◌+◌, ◌<◌, ◌≤◌, Bool, true, false, cond, eqb, List, [], ◌∷◌, ◌++◌, length, Option, Some, None, Ok, refl, sym, ap, subst, ◌∙◌, arith, length-append}
 use Rattle.std.specs.List.{AllByRecursion}
 use Rattle.std.proofs.lemmas.Bool.{eqb-true, eqb-false}
 use Rattle.std.proofs.lemmas.List.{append-nil}
 use Rattle.std.proofs.lemmas.List.Concat.{flat_map-append}
 use Rattle.field_tables.proofs.Octets.{IsBytes}
 use Rattle.amqp_frames.specs.declared.frame.Frame.{Frame}
-use Rattle.amqp_props.specs.declared.properties.Properties.{Properties}
-use Rattle.amqp_props.specs.ContentHeader.{header_spelling}
 use Rattle.amqp_methods.specs.Methods.{Call}
-use Rattle.amqp_content.specs.declared.fault.ContentFault.{ContentFault}
-use Rattle.amqp_content.specs.Steps.{Received, Open, Whole, has_content, begun, opened_at, with_next, with_frame, taken, is_full, is_whole, whole}
-use Rattle.amqp_content.specs.Commands.{IsMethodFrame, IsHeaderFrame, AreBodyFrames, IsMethodAlone, AreContent, AreOn, Spelled, IsCommand, Begins, AreOpen, NoCommand, payloads}
-use Rattle.amqp_content.proofs.FrameLemmas.{IsOpened, opened_takes, opened_again, IsBegun, header_next, header_again, IsGrown, body_next, body_again}
+use Rattle.amqp_content.specs.Steps.{Received, Open, has_content, opened_at, with_next, with_frame, taken, is_full, is_whole, whole}
+use Rattle.amqp_content.specs.Commands.{AreBodyFrames, IsMethodAlone, AreContent, AreOn, IsCommand, Begins, AreOpen, payloads}
+use Rattle.amqp_content.proofs.FrameLemmas.{opened_takes, header_next, body_next}
 
 -- ---- lists
 

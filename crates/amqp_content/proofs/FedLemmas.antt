@@ -1,5 +1,5 @@
 -- What `feed` answered, as a statement on the frames of the channel.
-use Rattle.std.proofs.Common.{◌≡◌, ℕ, Bool, true, false, cond, List, [], ◌∷◌, ◌++◌, Option, Some, None, option_map, Result, Ok, Err, refl, sym, ap, subst, ◌∙◌}
+use Rattle.std.proofs.Common.{◌≡◌, ℕ, Bool, true, false, cond, List, [], ◌∷◌, ◌++◌, Option, Some, None, option_map, Result, Ok, Err, refl, sym, ap, subst}
 use Rattle.field_tables.proofs.Octets.{IsBytes}
 use Rattle.amqp_frames.specs.declared.frame.Frame.{Frame}
 use Rattle.amqp_content.specs.declared.command.Command.{Command}
@@ -7,7 +7,7 @@ use Rattle.amqp_content.specs.declared.fault.ContentFault.{ContentFault}
 use Rattle.amqp_content.specs.declared.fault.ContentFault.TheVariants.{Unexpected, Size, Header, Method, Memory}
 use Rattle.amqp_content.specs.Steps.{Open, Whole, is_whole, whole, taken, is_heartbeat, settled, feed_frame}
 use Rattle.amqp_content.specs.Commands.{IsCommand, AreOpen, NoCommand}
-use Rattle.amqp_content.specs.View.{whole_of, counted, Fed, Spells}
+use Rattle.amqp_content.specs.View.{whole_of, Fed, Spells}
 use Rattle.amqp_content.proofs.CommandLemmas.{IsTaken, frame_taken, is_command, stays_open}
 use Rattle.amqp_content.proofs.LawLemmas.{frame_refused}
 

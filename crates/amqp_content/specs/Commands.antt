@@ -1,6 +1,6 @@
 -- Whole commands as lists of frames: AMQP 0-9-1, sections 4.2.1 "Formal Protocol Grammar", 2.3.5.1 "Method Frames", 2.3.5.2
 -- "Content Frames" and 4.2.6 "Content Framing".
-use Rattle.std.specs.Prelude.{◌≡◌, ◌≢◌, ℕ, ◌<◌, ◌≤◌, true, false, List, [], ◌∷◌, ◌++◌, length, Option, Some, None}
+use Rattle.std.specs.Prelude.{◌≡◌, ℕ, ◌<◌, ◌≤◌, true, false, List, [], ◌∷◌, ◌++◌, length, Option, Some, None}
 use Rattle.std.specs.List.{flat_map, AllByRecursion}
 use Rattle.amqp_frames.specs.declared.frame.Frame.{Frame}
 use Rattle.amqp_props.specs.declared.properties.Properties.{Properties}

@@ -1,6 +1,6 @@
 -- What each frame adds to the command of its channel: AMQP 0-9-1, sections 2.3.5.1 "Method Frames", 2.3.5.2 "Content
 -- Frames", 4.2.6 "Content Framing" and 4.2.7 "Heartbeat Frames".
-use Rattle.std.specs.Prelude.{◌≡◌, ℕ, ◌+◌, ◌==◌, Bool, true, false, not, ◌&&◌, ◌||◌, List, [], ◌++◌, length, Option, Some, None, Result, Ok, Err, option_map, nat_lt, if◌then◌else◌}
+use Rattle.std.specs.Prelude.{◌≡◌, ℕ, ◌+◌, ◌==◌, Bool, true, false, ◌&&◌, ◌||◌, List, [], ◌++◌, length, Option, Some, None, Result, Ok, Err, option_map, nat_lt, if◌then◌else◌}
 use Rattle.amqp_frames.specs.declared.frame.Frame.{Frame}
 use Rattle.amqp_props.specs.declared.properties.Properties.{Properties}
 use Rattle.amqp_props.specs.declared.fault.PropsFault.{PropsFault}

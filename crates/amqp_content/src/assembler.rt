@@ -12,6 +12,9 @@ use amqp_frames::Frame;
 use std::alloc::Global;
 use std::collections::HashMap;
 
+/// The type of a heartbeat (AMQP 0-9-1, section 4.2.1).
+const HEARTBEAT_FRAME: u8 = 8;
+
 /// Puts the frames of a stream together to commands, channel by channel.
 #[derive(Drop)]
 pub struct Assembler {
@@ -127,5 +130,5 @@ fn octets_fit(octets: &[u8])
 fn is_heartbeat(frame: &Frame) -> bool
     ensures { result ≡ is_heartbeat frame.now }
 {
-    frame.kind == 8 && frame.channel == 0
+    frame.kind == HEARTBEAT_FRAME && frame.channel == 0
 }

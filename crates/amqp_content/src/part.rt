@@ -15,6 +15,15 @@ use std::alloc::Global;
 /// The most octets of a body.
 pub const MAX_BODY: u64 = 16_777_216;
 
+/// The type of a method frame (AMQP 0-9-1, section 4.2.3).
+const METHOD_FRAME: u8 = 1;
+
+/// The type of a content header frame.
+const HEADER_FRAME: u8 = 2;
+
+/// The type of a content body frame.
+const BODY_FRAME: u8 = 3;
+
 /// The content of a command, as far as it came.
 #[derive(Drop)]
 pub(crate) struct Content {
@@ -101,7 +110,7 @@ impl Part {
     pub fn begin(alloc: Global, frame: &Frame) -> Result<Part, ContentFault>
         ensures { Gives open_of result (opened_at frame.now) }
     {
-        if frame.kind != 1 {
+        if frame.kind != METHOD_FRAME {
             return Err(ContentFault::Unexpected(frame.kind));
         }
         let method = read_method(alloc, frame.payload.as_slice())?;
@@ -119,13 +128,13 @@ impl Part {
     {
         match &mut self.content {
             Some(content) => {
-                if frame.kind != 3 {
+                if frame.kind != BODY_FRAME {
                     return Err(ContentFault::Unexpected(frame.kind));
                 }
                 content.add(frame.payload.as_slice())
             }
             None => {
-                if frame.kind != 2 {
+                if frame.kind != HEADER_FRAME {
                     return Err(ContentFault::Unexpected(frame.kind));
                 }
                 self.content = Some(begin_content(alloc, frame.payload.as_slice())?);

@@ -1,6 +1,5 @@
-use Rattle.std.proofs.Common.{refl, subst, sym, ap, ◌∙◌, true, ◌≡◌}
+use Rattle.std.proofs.Common.{refl}
 use Rattle.amqp_methods.specs.View.{call_of}
-use Rattle.amqp_content.specs.Steps.{has_content}
 use Rattle.amqp_content.proofs.MethodLemmas.{other_carries_none}
 use Rattle.amqp_content.proofs.part.has_content.Goals as goal
 
