@@ -64,7 +64,7 @@ fn whole_at_once(rt: HostRuntime) -> Result<(), Fail> {
 }
 
 /// Frames of one stream, and the fault of each that has one. After a fault the channel begins anew.
-const STREAM: [(u8, u16, &[u8], Option<ContentFault>); 23] = [
+const STREAM: [(u8, u16, &[u8], Option<ContentFault>); 34] = [
     (2, 1, TWO, Some(ContentFault::Unexpected(2))),
     (3, 1, b"hi", Some(ContentFault::Unexpected(3))),
     (8, 1, b"", Some(ContentFault::Unexpected(8))),
@@ -108,6 +108,47 @@ const STREAM: [(u8, u16, &[u8], Option<ContentFault>); 23] = [
     (2, 1, TWO, None),
     (3, 1, b"h", None),
     (3, 1, b"hi", Some(ContentFault::Size(3))),
+    (
+        1,
+        1,
+        &[0, 60, 0, 40, 0],
+        Some(ContentFault::Method(MethodFault::Field(0))),
+    ),
+    (1, 1, PUBLISH, None),
+    (
+        2,
+        1,
+        &[0, 61, 0, 0, 0, 0, 0, 0, 0, 0, 0, 0, 0, 0],
+        Some(ContentFault::Header(PropsFault::Class(61))),
+    ),
+    (1, 1, PUBLISH, None),
+    (
+        2,
+        1,
+        &[0, 60, 0, 1, 0, 0, 0, 0, 0, 0, 0, 0, 0, 0],
+        Some(ContentFault::Header(PropsFault::Weight(1))),
+    ),
+    (1, 1, PUBLISH, None),
+    (
+        2,
+        1,
+        &[0, 60, 0, 0, 0, 0, 0, 0, 0, 0, 0, 0, 0, 1],
+        Some(ContentFault::Header(PropsFault::Flags(1))),
+    ),
+    (1, 1, PUBLISH, None),
+    (
+        2,
+        1,
+        &[0, 60, 0, 0, 0, 0, 0, 0, 0, 0, 0, 0, 128, 0],
+        Some(ContentFault::Header(PropsFault::Field(0))),
+    ),
+    (1, 1, PUBLISH, None),
+    (
+        2,
+        1,
+        &[0, 60, 0, 0, 0, 0, 0, 0, 0, 0, 0, 0, 0, 0, 7],
+        Some(ContentFault::Header(PropsFault::Trailing(1))),
+    ),
 ];
 
 #[test]
