@@ -13,9 +13,8 @@ use Rattle.amqp_methods.specs.Reading.{call_at}
 use Rattle.amqp_methods.proofs.CallLemmas.{call_takes, call_again}
 use Rattle.amqp_content.specs.declared.fault.ContentFault.{ContentFault}
 use Rattle.amqp_content.specs.declared.fault.ContentFault.TheVariants.{Unexpected, Size}
-use Rattle.amqp_content.specs.declared.part.TheConstants.{MAX_BODY}
 use Rattle.amqp_content.specs.Headers.{header_of}
-use Rattle.amqp_content.specs.Steps.{Received, Open, begun, from_call, opened_at, from_header, received_at, with_octets, with_content, with_next}
+use Rattle.amqp_content.specs.Steps.{Received, Open, begun, from_call, opened_at, body_limit, from_header, received_at, with_octets, with_content, with_next}
 use Rattle.amqp_content.specs.Commands.{IsMethodFrame, IsHeaderFrame}
 use Rattle.amqp_content.proofs.HeaderLemmas.{properties_back, header_takes, header_of_spelling}
 
@@ -65,10 +64,10 @@ pub record IsBegun (frame : Frame) (received : Received) : Type 0 where
 abbrev empty : ℕ → Properties → Received
 empty size props = record { size = size; props = props; body = [] }
 
-from_header_ok : (read : Result (ℕ × Properties) PropsFault) (received : Received) → from_header read ≡ Ok received → (x : ℕ × Properties) × (read ≡ Ok x) × (x.0 ≤ MAX_BODY) × (empty x.0 x.1 ≡ received)
+from_header_ok : (read : Result (ℕ × Properties) PropsFault) (received : Received) → from_header read ≡ Ok received → (x : ℕ × Properties) × (read ≡ Ok x) × (x.0 ≤ body_limit) × (empty x.0 x.1 ≡ received)
 from_header_ok (Ok x) received e =
-    let test = wrong (ltb MAX_BODY x.0) (Size x.0) (Ok (empty x.0 x.1)) received e in
-    (x, refl, ltb-false MAX_BODY x.0 test.0, ok_is (empty x.0 x.1) received test.1)
+    let test = wrong (ltb body_limit x.0) (Size x.0) (Ok (empty x.0 x.1)) received e in
+    (x, refl, ltb-false body_limit x.0 test.0, ok_is (empty x.0 x.1) received test.1)
 from_header_ok (Err fault) received e = absurd cc
 
 received_takes : (frame : Frame) (received : Received) → IsBytes frame.payload → frame.kind ≡ 2 → received_at frame.payload ≡ Ok received → IsBegun frame received
@@ -81,15 +80,15 @@ received_takes frame received are kind e =
 received_again : (frame : Frame) (size : ℕ) (props : Properties) → IsHeaderFrame size props frame → received_at frame.payload ≡ Ok (empty size props)
 unfolding received_at
 received_again frame size props is =
-    let within : ltb MAX_BODY size ≡ false = le-ltb MAX_BODY size is.within in
+    let within : ltb body_limit size ≡ false = le-ltb body_limit size is.within in
     rw (is.spelled, header_of_spelling size props is.is_header, within) refl
 
 -- the content of a header that was read
-pub received_read : (payload : List ℕ) (size : ℕ) (props : Properties) (body : List ℕ) → header_at payload ≡ Ok (size, values_of props) → size ≤ MAX_BODY → body ≡ []
+pub received_read : (payload : List ℕ) (size : ℕ) (props : Properties) (body : List ℕ) → header_at payload ≡ Ok (size, values_of props) → size ≤ body_limit → body ≡ []
     → received_at payload ≡ Ok (record { size = size; props = props; body = body })
 unfolding received_at header_of
 received_read payload size props body read le none =
-    let within : ltb MAX_BODY size ≡ false = le-ltb MAX_BODY size le in
+    let within : ltb body_limit size ≡ false = le-ltb body_limit size le in
     rw (read, properties_back props, within, none) refl
 
 abbrev holding : Call → Received → Open

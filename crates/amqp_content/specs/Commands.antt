@@ -6,8 +6,7 @@ use Rattle.amqp_frames.specs.declared.frame.Frame.{Frame}
 use Rattle.amqp_props.specs.declared.properties.Properties.{Properties}
 use Rattle.amqp_props.specs.ContentHeader.{IsHeader, header_spelling}
 use Rattle.amqp_methods.specs.Methods.{Call, IsCall, SpellsCall}
-use Rattle.amqp_content.specs.declared.part.TheConstants.{MAX_BODY}
-use Rattle.amqp_content.specs.Steps.{Received, Open, Whole, has_content}
+use Rattle.amqp_content.specs.Steps.{Received, Open, Whole, has_content, body_limit}
 
 -- A method frame, of type 1, whose payload spells the method (2.3.5.1).
 pub record IsMethodFrame (call : Call) (frame : Frame) : Type 0 where
@@ -19,7 +18,7 @@ pub record IsMethodFrame (call : Call) (frame : Frame) : Type 0 where
 pub record IsHeaderFrame (size : ℕ) (props : Properties) (frame : Frame) : Type 0 where
   pub kind : frame.kind ≡ 2
   pub is_header : IsHeader size props
-  pub within : size ≤ MAX_BODY
+  pub within : size ≤ body_limit
   pub spelled : frame.payload ≡ header_spelling size props
 
 -- the octets that body frames bring

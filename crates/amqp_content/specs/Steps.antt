@@ -9,7 +9,6 @@ use Rattle.amqp_methods.specs.Methods.{Call}
 use Rattle.amqp_methods.specs.Reading.{call_at}
 use Rattle.amqp_content.specs.declared.fault.ContentFault.{ContentFault}
 use Rattle.amqp_content.specs.declared.fault.ContentFault.TheVariants.{Unexpected, Size, Memory}
-use Rattle.amqp_content.specs.declared.part.TheConstants.{MAX_BODY}
 use Rattle.amqp_content.specs.Faults.{of_method, of_header}
 use Rattle.amqp_content.specs.Headers.{header_of}
 
@@ -45,8 +44,12 @@ from_call (Err fault) = Err (of_method fault)
 unfoldable pub opened_at : Frame → Result Open ContentFault
 opened_at frame = if frame.kind == 1 then from_call (call_at frame.payload) else Err (Unexpected frame.kind)
 
+-- the most octets of a body
+abbrev pub body_limit : ℕ
+body_limit = 16777216
+
 abbrev pub from_header : Result (ℕ × Properties) PropsFault → Result Received ContentFault
-from_header (Ok x) = if nat_lt MAX_BODY x.0 then Err (Size x.0) else Ok (record { size = x.0; props = x.1; body = [] })
+from_header (Ok x) = if nat_lt body_limit x.0 then Err (Size x.0) else Ok (record { size = x.0; props = x.1; body = [] })
 from_header (Err fault) = Err (of_header fault)
 
 -- the content that a content header begins; its body's size is within the limit
