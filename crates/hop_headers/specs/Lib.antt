@@ -1,0 +1,7 @@
+pub mod Gate
+pub mod Hops
+pub mod Laws
+pub mod Names
+pub mod Propagation
+pub mod Room
+pub mod Stamps
