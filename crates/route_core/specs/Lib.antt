@@ -1,4 +1,5 @@
 pub mod Bindings
+pub mod Codes
 pub mod Inside
 pub mod Objects
 pub mod Routing

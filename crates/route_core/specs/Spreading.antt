@@ -1,5 +1,5 @@
 -- How the search for routes goes on: what has been reached, and what is left to look at.
-use Rattle.std.specs.Prelude.{◌≡◌, ℕ, ◌+◌, ◌≤◌, Bool, true, false, not, ◌&&◌, List, [], ◌∷◌, ◌++◌, Option, Some, None, All, length, count_by, if◌then◌else◌}
+use Rattle.std.specs.Prelude.{◌≡◌, ℕ, ◌+◌, ◌≤◌, Bool, true, false, not, ◌&&◌, List, [], ◌∷◌, ◌++◌, Option, Some, None, All, length, filter, if◌then◌else◌}
 use Rattle.std.specs.List.{list_any, Contains}
 use Rattle.std.specs.Str.{bytes_eq}
 use Rattle.route_core.specs.declared.object.Sort.{Sort}
@@ -10,22 +10,22 @@ use Rattle.route_core.specs.declared.object.Object.{Object}
 use Rattle.route_core.specs.declared.binding.Binding.{Binding}
 use Rattle.route_core.specs.Objects.{same_sort, number_of, sort_of}
 use Rattle.route_core.specs.Routing.{Routing}
-use Rattle.route_core.specs.Walks.{Publish, Stop, source_of, dest_of, exchange_node, Matches, IsReached, Reaches, queue_stop}
+use Rattle.route_core.specs.Walks.{Publish, Stop, stop, source_of, dest_of, exchange_node, Matches, IsReached, Reaches, queue_stop}
 
 abbrev pub is_at : Sort → List ℕ → Stop → Bool
-is_at sort name stop = same_sort stop.sort sort && bytes_eq stop.name name
+is_at sort name s = same_sort s.sort sort && bytes_eq s.name name
 
 abbrev pub is_among : List Stop → Sort → List ℕ → Bool
 is_among stops sort name = list_any (is_at sort name) stops
 
 -- how many of the bindings lead to what isn't reached yet
 abbrev pub left : List Stop → List Binding → ℕ
-left stops bindings = count_by (λ b. not (is_among stops b.sort b.dest)) bindings
+left stops bindings = length (filter (λ b. not (is_among stops b.sort b.dest)) bindings)
 
 -- the bindings that leave the stop and match lead to what is reached
 abbrev pub IsFollowed : List Object → Publish → List Binding → List Stop → Stop → Type 0
-IsFollowed objects p bindings stops stop =
-    All (λ b. source_of b ≡ stop → Matches objects p b → is_among stops b.sort b.dest ≡ true) bindings
+IsFollowed objects p bindings stops from =
+    All (λ b. source_of b ≡ from → Matches objects p b → is_among stops b.sort b.dest ≡ true) bindings
 
 -- these bindings have been followed from the stop
 pub record Spreads (r : Routing) (p : Publish) (from : Stop) (bindings : List Binding) (before after : List Stop) : Type 0 where
@@ -38,7 +38,7 @@ pub record Spreads (r : Routing) (p : Publish) (from : Stop) (bindings : List Bi
 -- exactly what the message reaches
 pub record AreStops (r : Routing) (p : Publish) (stops : List Stop) : Type 0 where
   pub sound : All (IsReached r p) stops
-  pub whole : (sort : Sort) (name : List ℕ) → IsReached r p (record { sort = sort; name = name }) → is_among stops sort name ≡ true
+  pub whole : (sort : Sort) (name : List ℕ) → IsReached r p (stop sort name) → is_among stops sort name ≡ true
 
 -- the number of a queue that is reached
 abbrev pub number_at : List Stop → Object → Option ℕ
@@ -49,7 +49,7 @@ exchange_by sorts.Queue name = None
 exchange_by sorts.Exchange name = Some name
 
 abbrev pub exchange_of : Stop → Option (List ℕ)
-exchange_of stop = exchange_by stop.sort stop.name
+exchange_of s = exchange_by s.sort s.name
 
 -- the binding leaves the exchange, matches, and leads to what isn't reached yet
 pub record LeadsOn (objects : List Object) (p : Publish) (b : Binding) (from : List ℕ) (stops : List Stop) : Type 0 where

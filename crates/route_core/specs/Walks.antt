@@ -32,17 +32,20 @@ pub record Stop : Type 0 where
   pub sort : Sort
   pub name : List ℕ
 
+abbrev pub stop : Sort → List ℕ → Stop
+stop sort name = record { sort = sort; name = name }
+
 abbrev pub exchange_stop : List ℕ → Stop
-exchange_stop name = record { sort = sorts.Exchange; name = name }
+exchange_stop name = stop sorts.Exchange name
 
 abbrev pub queue_stop : List ℕ → Stop
-queue_stop name = record { sort = sorts.Queue; name = name }
+queue_stop name = stop sorts.Queue name
 
 abbrev pub source_of : Binding → Stop
 source_of b = exchange_stop b.source
 
 abbrev pub dest_of : Binding → Stop
-dest_of b = record { sort = b.sort; name = b.dest }
+dest_of b = stop b.sort b.dest
 
 -- Whether a binding takes the message, by the type of the exchange that it leaves (AMQP 0-9-1, 3.1.3 "Exchange Types").
 abbrev pub TakesByType : ExchangeKind → Publish → Binding → Type 0

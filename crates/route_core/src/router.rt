@@ -31,7 +31,11 @@ pub struct Router {
 impl Model for Router {
     ghost use Rattle.route_core.specs.Routing.{RouterState};
 
+    ghost use Rattle.route_core.specs.Codes.{coded_state};
+
     ghost Value = { RouterState };
+
+    ghost coded = { coded_state };
 
     ghost use Rattle.route_core.specs.Inside.{state_of, IsKept};
 

@@ -98,7 +98,7 @@ pub(crate) fn walked(
     bindings: &[Binding],
     publication: Publication,
 ) -> Result<(Vec<QueueNo>, u32), AllocError>
-    requires named { publication.entry.exchange.now ≢ [] }
+    requires named { publication.exchange.now ≢ [] }
     requires order { AllPairs (λ earlier later. is_after earlier later ≡ true) objects.now }
     ensures routes { IfOk result (λ answer. AreRoutes (record { objects = objects.now; bindings = bindings.now }) (publish publication.entry.exchange.now publication.entry.key.now (table_view publication.entry.headers.now)) answer.0.items) }
     ensures limit { IfOk result (λ answer. IsWalkLimit (record { objects = objects.now; bindings = bindings.now }) (publish publication.entry.exchange.now publication.entry.key.now (table_view publication.entry.headers.now)) answer.1) }
@@ -115,9 +115,9 @@ pub(crate) fn named(
     objects: &[Object],
     publication: Publication,
 ) -> Result<Vec<QueueNo>, AllocError>
-    requires default { publication.entry.exchange.now ≡ [] }
+    requires default { publication.exchange.now ≡ [] }
     requires order { AllPairs (λ earlier later. is_after earlier later ≡ true) objects.now }
-    ensures { IfOk result (λ numbers. (bindings : List SpecBinding) → AreRoutes (record { objects = objects.now; bindings = bindings }) (publish publication.entry.exchange.now publication.entry.key.now (table_view publication.entry.headers.now)) numbers.items) }
+    ensures { IfOk result (λ numbers. (others : List SpecBinding) → AreRoutes (record { objects = objects.now; bindings = others }) (publish publication.entry.exchange.now publication.entry.key.now (table_view publication.entry.headers.now)) numbers.items) }
 {
     let stops = reach_named(alloc, publication)?;
     numbers_of(alloc, objects, &stops)

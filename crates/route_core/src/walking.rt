@@ -111,7 +111,7 @@ fn spread_at<'a>(
     at: usize,
     stops: Vec<Reached<'a>>,
 ) -> Result<Vec<Reached<'a>>, AllocError>
-    requires { at < length stops.entry.items }
+    requires { at < length stops.items }
     ensures { IfOk result (λ after. (d : Stop) → Spreads (record { objects = objects.now; bindings = bindings.now }) (publish publication.entry.exchange.now publication.entry.key.now (table_view publication.entry.headers.now)) (slice_index_or stops.entry.items at d) bindings.now stops.entry.items after.items) }
 {
     let here = &stops[at];
