@@ -1,9 +1,9 @@
 -- From what is reached to the routes of a message.
-use Rattle.std.proofs.Common.{◌≡◌, ◌≢◌, ℕ, ◌<◌, ◌≤◌, Bool, true, false, cond, not, ◌&&◌, List, [], ◌∷◌, Option, Some, None, refl, ap, sym, ◌∙◌, subst, arith}
-use Rattle.std.specs.Prelude.{All, nat_lt}
+use Rattle.std.proofs.Common.{◌≡◌, ◌≢◌, ℕ, ◌<◌, ◌≤◌, ◌++◌, ◌⊎◌, inl, inr, Bool, true, false, cond, not, ◌&&◌, List, [], ◌∷◌, Option, Some, None, refl, ap, sym, ◌∙◌, subst, arith}
+use Rattle.std.specs.Prelude.{All, nat_lt, max}
 use Rattle.std.specs.List.{Contains, Any, AllPairs, filter_map}
-use Rattle.std.proofs.lemmas.Bool.{true≢false, false≢true, and_parts, ltb-true}
-use Rattle.std.proofs.lemmas.List.Elements.{All-weaker, All-contains, All-contains_itself}
+use Rattle.std.proofs.lemmas.Bool.{true≢false, false≢true, and_parts, ltb-true, cases_lt}
+use Rattle.std.proofs.lemmas.List.Elements.{All-nil, All-push, All-weaker, All-contains, All-contains_itself}
 use Rattle.route_core.specs.declared.object.Sort.{Sort}
 use Rattle.route_core.specs.declared.object.Sort.TheVariants as sorts
 use Rattle.route_core.specs.declared.object.Node.{Node}
@@ -66,17 +66,17 @@ routes_from r p stops order sound whole = record {
   rising = rising-filter_map (λ earlier later. is_after earlier later ≡ true) (number_at stops) (numbers_rise stops) r.objects order;
 }
 
-walked : (r : Routing) (p : Publish) (stops : List Stop) → AllPairs (λ earlier later. is_after earlier later ≡ true) r.objects → p.exchange ≢ [] → AreStops r p stops → AreRoutes r p (filter_map (number_at stops) r.objects)
+walked : (r : Routing) (p : Publish) (stops : List Stop) → p.exchange ≢ [] → AreStops r p stops → (name : List ℕ) → Reaches r p name → is_among stops sorts.Queue name ≡ true
+walked r p stops other h name (by_name e k f) = absurd (other e)
+walked r p stops other h name (by_walk e reached) = h.whole sorts.Queue name reached
+
+pub routes_walked : (r : Routing) (p : Publish) (stops : List Stop) → AllPairs (λ earlier later. is_after earlier later ≡ true) r.objects → p.exchange ≢ [] → AreStops r p stops → AreRoutes r p (filter_map (number_at stops) r.objects)
 routes_walked r p stops order other h =
     routes_from r p stops order
       (λ name t. by_walk other (among_all (IsReached r p) stops sorts.Queue name h.sound t))
       (walked r p stops other h)
 
-walked : (r : Routing) (p : Publish) (stops : List Stop) → p.exchange ≢ [] → AreStops r p stops → (name : List ℕ) → Reaches r p name → is_among stops sorts.Queue name ≡ true
-walked r p stops other h name (by_name e k f) = absurd (other e)
-walked r p stops other h name (by_walk e reached) = h.whole sorts.Queue name reached
-
-pub routes_-- the default exchange
+-- the default exchange
 abbrev pub named_stops : Publish → List Stop
 named_stops p = cond (is_reserved p.key) [] (queue_stop p.key ∷ [])
 
@@ -99,6 +99,31 @@ routes_named r p order d =
     routes_from r p (named_stops p) order (named_sound r p (is_reserved p.key) refl d) (named_whole r p (is_reserved p.key) refl d)
 
 -- ---- the limit
+
+-- the greatest limit over these bindings
+pub record IsLimitOf (objects : List Object) (p : Publish) (stops : List Stop) (bindings taken : List Binding) (limit : ℕ) : Type 0 where
+  pub some : 0 < limit → Any (λ b. GateAt objects p stops b limit) bindings
+  pub greatest : All (λ b. (other : ℕ) → GateAt objects p stops b other → other ≤ limit) taken
+
+pub limit_none : (objects : List Object) (p : Publish) (stops : List Stop) (bindings : List Binding) → IsLimitOf objects p stops bindings [] 0
+limit_none objects p stops bindings = record { some = λ lt. absurd (omega arith); greatest = All-nil _ }
+
+pub limit_more : (objects : List Object) (p : Publish) (stops : List Stop) (bindings taken : List Binding) (b : Binding) (limit n m : ℕ) → IsLimitOf objects p stops bindings taken limit → Contains bindings b → (0 < n → GateAt objects p stops b n) → ((other : ℕ) → GateAt objects p stops b other → other ≤ n) → m ≡ max limit n → IsLimitOf objects p stops bindings (taken ++ b ∷ []) m
+limit_more objects p stops bindings taken b limit n m h c gate most e = record {
+  some = λ lt. elim (cases_lt limit n) [
+    | inl less ↦
+        let same : n ≡ m = omega arith in
+        let pos : 0 < n = omega arith in
+        (c.0, b, c.1, c.2, subst (λ k. GateAt objects p stops b k) same (gate pos))
+    | inr more ↦
+        let same : limit ≡ m = omega arith in
+        let pos : 0 < limit = omega arith in
+        subst (λ k. Any (λ (x : Binding). GateAt objects p stops x k) bindings) same (h.some pos)
+  ];
+  greatest = All-push (λ (x : Binding). (other : ℕ) → GateAt objects p stops x other → other ≤ m) taken b
+    (All-weaker (λ (x : Binding). (other : ℕ) → GateAt objects p stops x other → other ≤ limit) (λ (x : Binding). (other : ℕ) → GateAt objects p stops x other → other ≤ m) (λ x f other g. omega (arith, f other g)) taken h.greatest)
+    (λ other g. omega (arith, most other g));
+}
 
 pub limit_walked : (r : Routing) (p : Publish) (stops : List Stop) (limit : ℕ) → p.exchange ≢ [] → AreStops r p stops → (0 < limit → Any (λ b. GateAt r.objects p stops b limit) r.bindings) → All (λ b. (other : ℕ) → GateAt r.objects p stops b other → other ≤ limit) r.bindings → IsWalkLimit r p limit
 limit_walked r p stops limit named h some greatest = record {

@@ -120,5 +120,6 @@ pub(crate) fn named(
     ensures { IfOk result (λ numbers. (others : List SpecBinding) → AreRoutes (record { objects = objects.now; bindings = others }) (publish publication.entry.exchange.now publication.entry.key.now (table_view publication.entry.headers.now)) numbers.items) }
 {
     let stops = reach_named(alloc, publication)?;
-    numbers_of(alloc, objects, &stops)
+    let numbers = numbers_of(alloc, objects, &stops)?;
+    Ok(numbers)
 }
