@@ -21,7 +21,7 @@ abbrev sort_from : Bool → Sort
 sort_from true = sorts.Queue
 sort_from false = sorts.Exchange
 
-sort_back : (s : Sort) → sort_from (is_queue s) ≡ s
+pub sort_back : (s : Sort) → sort_from (is_queue s) ≡ s
 sort_back sorts.Queue = refl
 sort_back sorts.Exchange = refl
 
@@ -50,7 +50,7 @@ abbrev node_from : NodeCode → Node
 node_from c =
     if c.0.0 == 0 then nodes.Queue c.0.1 else (if c.0.0 == 1 then nodes.Exchange (kind_from c.0.1) else nodes.Gate c.0.1 c.1.0 c.1.1)
 
-node_back : (node : Node) → node_from (node_code node) ≡ node
+pub node_back : (node : Node) → node_from (node_code node) ≡ node
 node_back (nodes.Queue number) = refl
 node_back (nodes.Exchange kinds.Direct) = refl
 node_back (nodes.Exchange kinds.Fanout) = refl

@@ -1,0 +1,5 @@
+use Rattle.route_core.proofs.ObjectLemmas.{order_push}
+use Rattle.route_core.proofs.router.Router.put.Goals as goal
+
+pub invariant_of-self : goal.invariant_of-self
+invariant_of-self c = ?
