@@ -24,7 +24,7 @@ pub order_push : (r : Routing) (name : List ℕ) (node : Node) → InOrder r.obj
 order_push r name node order free next =
     let other : All (λ o. is_named (sort_of node) name o ≡ false) r.objects = none_pass (is_named (sort_of node) name) r.objects (or_parts (is_default (sort_of node) name) (has (sort_of node) name r.objects) free).1 in
     all_pairs_push (λ earlier later. is_after earlier later ≡ true) r.objects (object_named name node) order
-      (λ k d lt. and_from (not (is_named (sort_of node) name (get_or r.objects k d))) (rises (number_of (get_or r.objects k d).node) (number_of node)) (not_from_false _ (other k d lt)) (next k d lt))
+    (λ k d lt. and_from (not (is_named (sort_of node) name (get_or r.objects k d))) (rises (number_of (get_or r.objects k d).node) (number_of node)) (not_from_false _ (other k d lt)) (next k d lt))
 
 pub order_filter : (test : Object → Bool) (objects : List Object) → InOrder objects → InOrder (filter test objects)
 order_filter test objects order = AllPairs-filter (λ earlier later. is_after earlier later ≡ true) test objects order

@@ -59,7 +59,7 @@ numbers_rise stops x y m n after e f =
 pub routes_from : (r : Routing) (p : Publish) (stops : List Stop) → AllPairs (λ earlier later. is_after earlier later ≡ true) r.objects → ((name : List ℕ) → is_among stops sorts.Queue name ≡ true → Reaches r p name) → ((name : List ℕ) → Reaches r p name → is_among stops sorts.Queue name ≡ true) → AreRoutes r p (filter_map (number_at stops) r.objects)
 routes_from r p stops order sound whole = record {
   reached = All-filter_map (λ n. (name : List ℕ) × IsQueue r name n × Reaches r p name) (number_at stops) r.objects
-    (All-weaker (Contains r.objects) (λ o. (n : ℕ) → number_at stops o ≡ Some n → (name : List ℕ) × IsQueue r name n × Reaches r p name)
+      (All-weaker (Contains r.objects) (λ o. (n : ℕ) → number_at stops o ≡ Some n → (name : List ℕ) × IsQueue r name n × Reaches r p name)
       (λ o c n e. let q = numbered stops o n e in (o.name, subst (λ (x : Object). Contains r.objects x) q.is c, sound o.name q.reached))
       r.objects (All-contains_itself r.objects));
   whole = λ name n is reached. Contains-filter_map (number_at stops) r.objects (object_named name (nodes.Queue n)) n is (number_given stops name n (whole name reached));
@@ -73,8 +73,8 @@ walked r p stops other h name (by_walk e reached) = h.whole sorts.Queue name rea
 pub routes_walked : (r : Routing) (p : Publish) (stops : List Stop) → AllPairs (λ earlier later. is_after earlier later ≡ true) r.objects → p.exchange ≢ [] → AreStops r p stops → AreRoutes r p (filter_map (number_at stops) r.objects)
 routes_walked r p stops order other h =
     routes_from r p stops order
-      (λ name t. by_walk other (among_all (IsReached r p) stops sorts.Queue name h.sound t))
-      (walked r p stops other h)
+    (λ name t. by_walk other (among_all (IsReached r p) stops sorts.Queue name h.sound t))
+    (walked r p stops other h)
 
 -- the default exchange
 abbrev pub named_stops : Publish → List Stop
@@ -121,8 +121,8 @@ limit_more objects p stops bindings taken b limit n m h c gate most e = record {
         subst (λ k. Any (λ (x : Binding). GateAt objects p stops x k) bindings) same (h.some pos)
   ];
   greatest = All-push (λ (x : Binding). (other : ℕ) → GateAt objects p stops x other → other ≤ m) taken b
-    (All-weaker (λ (x : Binding). (other : ℕ) → GateAt objects p stops x other → other ≤ limit) (λ (x : Binding). (other : ℕ) → GateAt objects p stops x other → other ≤ m) (λ x f other g. omega (arith, f other g)) taken h.greatest)
-    (λ other g. omega (arith, most other g));
+      (All-weaker (λ (x : Binding). (other : ℕ) → GateAt objects p stops x other → other ≤ limit) (λ (x : Binding). (other : ℕ) → GateAt objects p stops x other → other ≤ m) (λ x f other g. omega (arith, f other g)) taken h.greatest)
+      (λ other g. omega (arith, most other g));
 }
 
 pub limit_walked : (r : Routing) (p : Publish) (stops : List Stop) (limit : ℕ) → p.exchange ≢ [] → AreStops r p stops → (0 < limit → Any (λ b. GateAt r.objects p stops b limit) r.bindings) → All (λ b. (other : ℕ) → GateAt r.objects p stops b other → other ≤ limit) r.bindings → IsWalkLimit r p limit

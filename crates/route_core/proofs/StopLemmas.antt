@@ -112,8 +112,8 @@ spreads_push r p name bindings before after b h c l = record {
   kept = ap (λ (ss : List Stop). ss ++ dest_of b ∷ []) h.kept ∙ append_assoc before h.more (dest_of b ∷ []);
   sound = λ from all. All-push (IsReached r p) after (dest_of b) (h.sound from all) (reached_more r p (exchange_stop name) b from (ap exchange_stop (sym l.leaves)) c l.matches);
   followed = All-push (λ (x : Binding). source_of x ≡ exchange_stop name → Matches r.objects p x → is_among (after ++ dest_of b ∷ []) x.sort x.dest ≡ true) bindings b
-    (All-weaker (λ (x : Binding). source_of x ≡ exchange_stop name → Matches r.objects p x → is_among after x.sort x.dest ≡ true) (λ (x : Binding). source_of x ≡ exchange_stop name → Matches r.objects p x → is_among (after ++ dest_of b ∷ []) x.sort x.dest ≡ true) (λ x f s m. among_push after (dest_of b) x.sort x.dest (f s m)) bindings h.followed)
-    (λ _ _. among_last after b.sort b.dest);
+      (All-weaker (λ (x : Binding). source_of x ≡ exchange_stop name → Matches r.objects p x → is_among after x.sort x.dest ≡ true) (λ (x : Binding). source_of x ≡ exchange_stop name → Matches r.objects p x → is_among (after ++ dest_of b ∷ []) x.sort x.dest ≡ true) (λ x f s m. among_push after (dest_of b) x.sort x.dest (f s m)) bindings h.followed)
+      (λ _ _. among_last after b.sort b.dest);
   falls = omega (arith, h.falls, left_falls r.bindings after b c l.fresh, length-append after (dest_of b ∷ []));
 }
 
@@ -168,9 +168,9 @@ searched_step r p next before after h lt spreads =
     let d = exchange_stop [] in
     let s = spreads d in
     let follows : All (IsFollowed r.objects p r.bindings after) (take next before ++ get_or before next d ∷ []) =
-      All-push (IsFollowed r.objects p r.bindings after) (take next before) (get_or before next d)
-        (All-weaker (IsFollowed r.objects p r.bindings before) (IsFollowed r.objects p r.bindings after) (λ from f. followed_more r.objects p r.bindings before s.more after s.kept from f) (take next before) h.followed)
-        s.followed in
+    All-push (IsFollowed r.objects p r.bindings after) (take next before) (get_or before next d)
+    (All-weaker (IsFollowed r.objects p r.bindings before) (IsFollowed r.objects p r.bindings after) (λ from f. followed_more r.objects p r.bindings before s.more after s.kept from f) (take next before) h.followed)
+    s.followed in
     record {
       within = omega (arith, ap (λ (ss : List Stop). length ss) s.kept, length-append before s.more);
       start = among_more before s.more after s.kept sorts.Exchange p.exchange h.start;
@@ -187,8 +187,8 @@ walk_among : (r : Routing) (p : Publish) (stops : List Stop) → All (IsFollowed
 walk_among r p stops all [] at to h w = subst (λ (s : Stop). is_among stops s.sort s.name ≡ true) w h
 walk_among r p stops all (b ∷ walk) at to h w =
     walk_among r p stops all walk (dest_of b) to
-      (All-contains (λ (x : Binding). source_of x ≡ at → Matches r.objects p x → is_among stops x.sort x.dest ≡ true) r.bindings b (among_all (IsFollowed r.objects p r.bindings stops) stops at.sort at.name all h) w.1 (sym w.0) w.2)
-      w.3
+    (All-contains (λ (x : Binding). source_of x ≡ at → Matches r.objects p x → is_among stops x.sort x.dest ≡ true) r.bindings b (among_all (IsFollowed r.objects p r.bindings stops) stops at.sort at.name all h) w.1 (sym w.0) w.2)
+    w.3
 
 pub searched_all : (r : Routing) (p : Publish) (next : ℕ) (stops : List Stop) → IsSearched r p next stops → length stops ≤ next → AreStops r p stops
 searched_all r p next stops h end =

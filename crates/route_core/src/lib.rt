@@ -13,3 +13,6 @@ pub use binding::Binding;
 pub use fault::RouteFault;
 pub use object::{Node, Object, QueueNo, Sort};
 pub use router::Router;
+
+#[cfg(test)]
+mod tests;

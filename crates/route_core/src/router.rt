@@ -30,7 +30,6 @@ pub struct Router {
 
 impl Model for Router {
     ghost use Rattle.route_core.specs.Routing.{RouterState};
-
     ghost use Rattle.route_core.specs.Codes.{coded_state};
 
     ghost Value = { RouterState };
@@ -136,14 +135,7 @@ impl Router {
     }
 
     /// Removes the equal binding; false exactly where there is none.
-    pub fn unbind(
-        &mut self,
-        source: &str,
-        sort: Sort,
-        dest: &str,
-        key: &str,
-        args: &Table,
-    ) -> bool
+    pub fn unbind(&mut self, source: &str, sort: Sort, dest: &str, key: &str, args: &Table) -> bool
         ensures there { result ≡ has_same (binding_of source.now sort dest.now key.now (table_view args.now)) self.old.routing.bindings }
         ensures gone { result ≡ true → self.new.routing ≡ without_binding (binding_of source.now sort dest.now key.now (table_view args.now)) self.old.routing }
         ensures objects { self.new.spare_objects ≡ self.old.spare_objects }
@@ -200,7 +192,14 @@ impl Router {
     }
 
     /// Binds a queue or an exchange to an exchange; false exactly where an equal binding stands. Takes no memory.
-    pub fn tie(&mut self, source: String, sort: Sort, dest: String, key: String, args: Table) -> bool
+    pub fn tie(
+        &mut self,
+        source: String,
+        sort: Sort,
+        dest: String,
+        key: String,
+        args: Table,
+    ) -> bool
         requires spare { 0 < self.old.spare_bindings }
         requires source { has_object sorts.Exchange (string_bytes source) self.old.routing.objects ≡ true }
         requires dest { has_object sort (string_bytes dest) self.old.routing.objects ≡ true }

@@ -1,6 +1,5 @@
 use super::*;
-use crate::fault::RouteFault;
-use amqp_props::{ExchangeKind, Text};
+use amqp_props::ExchangeKind;
 use field_tables::Table;
 use std::alloc::{AllocError, Global};
 use std::test::Fail;

@@ -30,5 +30,5 @@ loop-binding-preserved c =
 pub returns : goal.returns
 returns c =
     subst (λ (bs : List Binding). Spreads (record { objects = c.args.objects.now; bindings = c.args.bindings.now }) (publish c.args.publication.exchange.now c.args.publication.key.now (table_view c.args.publication.headers.now)) (exchange_stop c.args.from.now) bs c.args.stops.items c.loop-binding.stops.items)
-      (take_all c.loop-binding.binding-index c.args.bindings.now c.loop-binding-test.false)
-      c.loop-binding.invariant
+    (take_all c.loop-binding.binding-index c.args.bindings.now c.loop-binding-test.false)
+    c.loop-binding.invariant
