@@ -1,3 +1,5 @@
+ghost use Rattle.std.specs.Prelude.{◌≡◌, IfOk, string_bytes};
+
 use super::*;
 use amqp_props::ExchangeKind;
 use field_tables::Table;
@@ -10,7 +12,9 @@ fn no_table(alloc: Global) -> Table {
     }
 }
 
-fn text(alloc: Global, name: &str) -> Result<String, AllocError> {
+fn text(alloc: Global, name: &str) -> Result<String, AllocError>
+    ensures { IfOk result (λ t. string_bytes t ≡ name.now) }
+{
     String::from_str(alloc, name)
 }
 
