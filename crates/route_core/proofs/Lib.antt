@@ -1,0 +1,4 @@
+pub mod Lists
+pub mod ObjectLemmas
+pub mod RouteLemmas
+pub mod StopLemmas

@@ -1,0 +1,132 @@
+//! Bindings.
+
+ghost use Rattle.std.specs.Prelude.{◌≡◌, ◌≤◌, not, filter, slice_get, vec_len, vec_capacity};
+ghost use Rattle.std.specs.Option.{option_copied};
+ghost use Rattle.field_tables.specs.View.{table_view};
+ghost use Rattle.route_core.specs.Bindings.{binding_of, is_same as is_same_binding, leaves as binding_leaves, ends_with as binding_ends_with, has_binding as has_same};
+
+use crate::object::{Sort, same_sort};
+use amqp_props::{FieldTable, Text};
+use field_tables::Table;
+use std::alloc::{AllocError, Global};
+
+/// A binding from an exchange to a queue or an exchange.
+#[derive(Debug, Drop)]
+pub struct Binding {
+    /// The exchange that it leaves.
+    pub source: Text,
+    /// What it leads to.
+    pub sort: Sort,
+    /// The name of what it leads to.
+    pub dest: Text,
+    /// Its routing key.
+    pub key: Text,
+    /// Its arguments.
+    pub args: FieldTable,
+}
+
+/// The parts of a binding that is asked for.
+#[derive(Clone, Copy)]
+pub(crate) struct Asked<'a> {
+    pub(crate) source: &'a str,
+    pub(crate) sort: Sort,
+    pub(crate) dest: &'a str,
+    pub(crate) key: &'a str,
+    pub(crate) args: &'a Table,
+}
+
+pub(crate) fn is_same(binding: &Binding, asked: Asked) -> bool
+    ensures { result ≡ is_same_binding (binding_of asked.entry.source.now asked.entry.sort asked.entry.dest.now asked.entry.key.now (table_view asked.entry.args.now)) binding.now }
+{
+    binding.source.as_str() == asked.source
+        && same_sort(binding.sort, asked.sort)
+        && binding.dest.as_str() == asked.dest
+        && binding.key.as_str() == asked.key
+        && *binding.args.as_table() == *asked.args
+}
+
+impl Binding {
+    ghost use Rattle.std.specs.Prelude.{◌≡◌, IfOk};
+    ghost use Rattle.field_tables.specs.View.{table_view};
+    ghost use Rattle.route_core.specs.Bindings.{binding_of};
+
+    pub(crate) fn from_parts(alloc: Global, asked: Asked) -> Result<Self, AllocError>
+        ensures { IfOk result (λ made. made ≡ binding_of asked.entry.source.now asked.entry.sort asked.entry.dest.now asked.entry.key.now (table_view asked.entry.args.now)) }
+    {
+        Ok(Binding {
+            source: Text::from_str(alloc, asked.source)?,
+            sort: asked.sort,
+            dest: Text::from_str(alloc, asked.dest)?,
+            key: Text::from_str(alloc, asked.key)?,
+            args: FieldTable::new(asked.args.clone()?),
+        })
+    }
+
+    pub(crate) fn as_asked(&self) -> Asked<'_>
+        ensures { binding_of result.source.now result.sort result.dest.now result.key.now (table_view result.args.now) ≡ self.now }
+    {
+        Asked {
+            source: self.source.as_str(),
+            sort: self.sort,
+            dest: self.dest.as_str(),
+            key: self.key.as_str(),
+            args: self.args.as_table(),
+        }
+    }
+}
+
+pub(crate) fn has_binding(bindings: &[Binding], asked: Asked) -> bool
+    ensures { result ≡ has_same (binding_of asked.entry.source.now asked.entry.sort asked.entry.dest.now asked.entry.key.now (table_view asked.entry.args.now)) bindings.now }
+{
+    bindings.iter().any(|binding| is_same(binding, asked))
+}
+
+pub(crate) fn remove_binding(bindings: &mut Vec<Binding>, asked: Asked)
+    ensures items { bindings.new.items ≡ filter (λ other. not (is_same_binding (binding_of asked.entry.source.now asked.entry.sort asked.entry.dest.now asked.entry.key.now (table_view asked.entry.args.now)) other)) bindings.old.items }
+    ensures len { vec_len bindings.new ≤ vec_len bindings.old }
+    ensures capacity { vec_capacity bindings.new ≡ vec_capacity bindings.old }
+{
+    bindings.retain(|binding| !is_same(binding, asked));
+}
+
+fn leaves(binding: &Binding, exchange: &str) -> bool
+    ensures { result ≡ binding_leaves exchange.now binding.now }
+{
+    binding.source.as_str() == exchange
+}
+
+fn ends_with(binding: &Binding, sort: Sort, name: &str) -> bool
+    ensures { result ≡ binding_ends_with sort name.now binding.now }
+{
+    same_sort(sort, Sort::Exchange) && leaves(binding, name)
+        || same_sort(binding.sort, sort) && binding.dest.as_str() == name
+}
+
+/// Removes each binding that has an end there.
+pub(crate) fn remove_ends(bindings: &mut Vec<Binding>, sort: Sort, name: &str)
+    ensures items { bindings.new.items ≡ filter (λ other. not (binding_ends_with sort name.now other)) bindings.old.items }
+    ensures len { vec_len bindings.new ≤ vec_len bindings.old }
+    ensures capacity { vec_capacity bindings.new ≡ vec_capacity bindings.old }
+{
+    bindings.retain(|binding| !ends_with(binding, sort, name));
+}
+
+/// The binding at that place among those from the exchange.
+pub(crate) fn binding_at<'a>(
+    bindings: &'a [Binding],
+    exchange: &str,
+    place: usize,
+) -> Option<&'a Binding>
+    ensures { option_copied result ≡ slice_get (filter (binding_leaves exchange.now) bindings.now) place }
+{
+    let mut left = place;
+    for binding in bindings {
+        if leaves(binding, exchange) {
+            if left == 0 {
+                return Some(binding);
+            }
+            left -= 1;
+        }
+    }
+    None
+}

@@ -1,0 +1,18 @@
+//! The router of a virtual host: exchanges, queues and bindings, and the queues that a message reaches.
+#![tactic(auto)]
+
+mod binding;
+mod fault;
+mod object;
+mod router;
+mod routes;
+mod taking;
+mod walking;
+
+pub use binding::Binding;
+pub use fault::RouteFault;
+pub use object::{Node, Object, QueueNo, Sort};
+pub use router::Router;
+
+#[cfg(test)]
+mod tests;

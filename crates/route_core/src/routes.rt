@@ -1,0 +1,125 @@
+//! The queues of a message, and the greatest limit of the gates that it passes.
+
+ghost use Rattle.std.specs.Prelude.{◌≡◌, ◌≢◌, ◌<◌, ◌≤◌, ℕ, List, [], true, All, IfOk};
+ghost use Rattle.std.specs.List.{filter_map, AllPairs, Any};
+ghost use Rattle.field_tables.specs.View.{table_view};
+ghost use Rattle.route_core.specs.declared.binding.Binding.{Binding as SpecBinding};
+ghost use Rattle.route_core.specs.Objects.{is_after, number_of as number_of_node};
+ghost use Rattle.route_core.specs.Walks.{publish, Reaches, AreRoutes, IsWalkLimit};
+ghost use Rattle.route_core.specs.Spreading.{number_at as number_at_stops, gate_limit as gate_limit_of, AreStops, IsGate, GateAt};
+
+use crate::binding::Binding;
+use crate::object::{Node, Object, QueueNo, Sort, sort_of};
+use crate::taking::{exchange_node, matches};
+use crate::walking::{Publication, Reached, is_among, reach, reach_named};
+use std::alloc::{AllocError, Global};
+
+fn number_of(node: &Node) -> Option<QueueNo>
+    ensures { result ≡ number_of_node node.now }
+{
+    match node {
+        Node::Queue(number) => Some(*number),
+        Node::Exchange(_) | Node::Gate { .. } => None,
+    }
+}
+
+fn number_at(stops: &[Reached], object: &Object) -> Option<QueueNo>
+    ensures { result ≡ number_at_stops stops.now object.now }
+{
+    if is_among(stops, sort_of(&object.node), object.name.as_str()) {
+        number_of(&object.node)
+    } else {
+        None
+    }
+}
+
+fn numbers_of(
+    alloc: Global,
+    objects: &[Object],
+    stops: &[Reached],
+) -> Result<Vec<QueueNo>, AllocError>
+    ensures { IfOk result (λ numbers. numbers.items ≡ filter_map (number_at_stops stops.now) objects.now) }
+{
+    objects
+        .iter()
+        .filter_map(|object| number_at(stops, object))
+        .collect(alloc)
+}
+
+/// The limit of the gate that the binding leaves, if it does and the message passes there.
+fn limit_at(
+    objects: &[Object],
+    binding: &Binding,
+    publication: Publication,
+    stops: &[Reached],
+) -> u32
+    ensures some { 0 < result → GateAt objects.now (publish publication.entry.exchange.now publication.entry.key.now (table_view publication.entry.headers.now)) stops.now binding.now result }
+    ensures greatest { (other : ℕ) → GateAt objects.now (publish publication.entry.exchange.now publication.entry.key.now (table_view publication.entry.headers.now)) stops.now binding.now other → other ≤ result }
+{
+    if is_among(stops, Sort::Exchange, binding.source.as_str())
+        && matches(objects, binding, publication)
+    {
+        gate_limit(objects, binding.source.as_str())
+    } else {
+        0
+    }
+}
+
+fn gate_limit(objects: &[Object], name: &str) -> u32
+    ensures some { 0 < result → IsGate objects.now name.now result }
+    ensures greatest { (other : ℕ) → IsGate objects.now name.now other → other ≤ result }
+{
+    match exchange_node(objects, name) {
+        Some(Node::Gate { limit, .. }) => *limit,
+        _ => 0,
+    }
+}
+
+fn greatest_limit(
+    objects: &[Object],
+    bindings: &[Binding],
+    publication: Publication,
+    stops: &[Reached],
+) -> u32
+    ensures some { 0 < result → Any (λ b. GateAt objects.now (publish publication.entry.exchange.now publication.entry.key.now (table_view publication.entry.headers.now)) stops.now b result) bindings.now }
+    ensures greatest { All (λ b. (other : ℕ) → GateAt objects.now (publish publication.entry.exchange.now publication.entry.key.now (table_view publication.entry.headers.now)) stops.now b other → other ≤ result) bindings.now }
+{
+    let mut greatest = 0;
+    for binding in bindings {
+        greatest = greatest.max(limit_at(objects, binding, publication, stops));
+    }
+    greatest
+}
+
+/// The routes over walks from an exchange other than the default one.
+pub(crate) fn walked(
+    alloc: Global,
+    objects: &[Object],
+    bindings: &[Binding],
+    publication: Publication,
+) -> Result<(Vec<QueueNo>, u32), AllocError>
+    requires named { publication.exchange.now ≢ [] }
+    requires order { AllPairs (λ earlier later. is_after earlier later ≡ true) objects.now }
+    ensures routes { IfOk result (λ answer. AreRoutes (record { objects = objects.now; bindings = bindings.now }) (publish publication.entry.exchange.now publication.entry.key.now (table_view publication.entry.headers.now)) answer.0.items) }
+    ensures limit { IfOk result (λ answer. IsWalkLimit (record { objects = objects.now; bindings = bindings.now }) (publish publication.entry.exchange.now publication.entry.key.now (table_view publication.entry.headers.now)) answer.1) }
+{
+    let stops = reach(alloc, objects, bindings, publication)?;
+    let numbers = numbers_of(alloc, objects, &stops)?;
+    let limit = greatest_limit(objects, bindings, publication, &stops);
+    Ok((numbers, limit))
+}
+
+/// The routes of the default exchange, which has no bindings.
+pub(crate) fn named(
+    alloc: Global,
+    objects: &[Object],
+    publication: Publication,
+) -> Result<Vec<QueueNo>, AllocError>
+    requires default { publication.exchange.now ≡ [] }
+    requires order { AllPairs (λ earlier later. is_after earlier later ≡ true) objects.now }
+    ensures { IfOk result (λ numbers. (others : List SpecBinding) → AreRoutes (record { objects = objects.now; bindings = others }) (publish publication.entry.exchange.now publication.entry.key.now (table_view publication.entry.headers.now)) numbers.items) }
+{
+    let stops = reach_named(alloc, publication)?;
+    let numbers = numbers_of(alloc, objects, &stops)?;
+    Ok(numbers)
+}

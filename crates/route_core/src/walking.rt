@@ -1,0 +1,167 @@
+//! The walk over matching bindings from the exchange of a message.
+
+ghost use Rattle.std.specs.Prelude.{◌≡◌, ◌<◌, true, false, [], ◌∷◌, IfOk, length, slice_index_or, if◌then◌else◌};
+ghost use Rattle.field_tables.specs.View.{table_view};
+ghost use Rattle.route_core.specs.Walks.{publish, Stop, source_of, exchange_stop, queue_stop, Matches, is_reserved as is_reserved_name};
+ghost use Rattle.route_core.specs.Spreading.{is_among as is_among_stops, LeadsOn, Spreads, AreStops};
+
+use crate::binding::Binding;
+use crate::object::{Object, Sort, same_sort};
+use crate::taking::matches;
+use field_tables::Table;
+use std::alloc::{AllocError, Global};
+use std::marker::Model;
+
+/// How the names begin that the default exchange does not route to.
+const RESERVED: &[u8] = b"federation: ";
+
+/// What a message is published with.
+#[derive(Clone, Copy)]
+pub(crate) struct Publication<'a> {
+    pub(crate) exchange: &'a str,
+    pub(crate) key: &'a str,
+    pub(crate) headers: &'a Table,
+}
+
+/// An exchange or a queue that the message reaches.
+#[derive(Drop)]
+pub(crate) struct Reached<'a> {
+    sort: Sort,
+    name: &'a str,
+}
+
+impl<'a> Model for Reached<'a> {
+    ghost use Rattle.route_core.specs.Walks.{Stop};
+
+    ghost Value = { Stop };
+
+    ghost view = { λ r. record { sort = r.sort; name = r.name.now } };
+}
+
+impl<'a> Reached<'a> {
+    ghost use Rattle.std.specs.Prelude.{◌≡◌};
+    ghost use Rattle.std.specs.Option.{option_copied};
+    ghost use Rattle.route_core.specs.Spreading.{is_at as is_at_stop, exchange_of};
+
+    fn is_at(&self, sort: Sort, name: &str) -> bool
+        ensures { result ≡ is_at_stop sort name.now self.now }
+    {
+        same_sort(self.sort, sort) && self.name == name
+    }
+
+    /// The name of an exchange.
+    fn exchange(&self) -> Option<&'a str>
+        ensures { option_copied result ≡ exchange_of self.now }
+    {
+        match self.sort {
+            Sort::Queue => None,
+            Sort::Exchange => Some(self.name),
+        }
+    }
+}
+
+pub(crate) fn is_among(stops: &[Reached], sort: Sort, name: &str) -> bool
+    ensures { result ≡ is_among_stops stops.now sort name.now }
+{
+    stops.iter().any(|stop| stop.is_at(sort, name))
+}
+
+/// Whether the binding leads from the exchange to what isn't reached yet.
+fn leads_on(
+    objects: &[Object],
+    binding: &Binding,
+    publication: Publication,
+    from: &str,
+    stops: &[Reached],
+) -> bool
+    ensures yes { result ≡ true → LeadsOn objects.now (publish publication.entry.exchange.now publication.entry.key.now (table_view publication.entry.headers.now)) binding.now from.now stops.now }
+    ensures no { result ≡ false → source_of binding.now ≡ exchange_stop from.now → Matches objects.now (publish publication.entry.exchange.now publication.entry.key.now (table_view publication.entry.headers.now)) binding.now → is_among_stops stops.now binding.now.sort binding.now.dest ≡ true }
+{
+    binding.source.as_str() == from
+        && !is_among(stops, binding.sort, binding.dest.as_str())
+        && matches(objects, binding, publication)
+}
+
+/// Goes on over each binding that leaves the exchange and matches.
+fn spread<'a>(
+    objects: &[Object],
+    bindings: &'a [Binding],
+    publication: Publication,
+    from: &str,
+    mut stops: Vec<Reached<'a>>,
+) -> Result<Vec<Reached<'a>>, AllocError>
+    ensures { IfOk result (λ after. Spreads (record { objects = objects.now; bindings = bindings.now }) (publish publication.entry.exchange.now publication.entry.key.now (table_view publication.entry.headers.now)) (exchange_stop from.now) bindings.now stops.entry.items after.items) }
+{
+    for binding in bindings {
+        if leads_on(objects, binding, publication, from, &stops) {
+            stops.push(Reached {
+                sort: binding.sort,
+                name: binding.dest.as_str(),
+            })?;
+        }
+    }
+    Ok(stops)
+}
+
+/// Goes on from what was reached at this place.
+fn spread_at<'a>(
+    objects: &[Object],
+    bindings: &'a [Binding],
+    publication: Publication,
+    at: usize,
+    stops: Vec<Reached<'a>>,
+) -> Result<Vec<Reached<'a>>, AllocError>
+    requires { at < length stops.items }
+    ensures { IfOk result (λ after. (d : Stop) → Spreads (record { objects = objects.now; bindings = bindings.now }) (publish publication.entry.exchange.now publication.entry.key.now (table_view publication.entry.headers.now)) (slice_index_or stops.entry.items at d) bindings.now stops.entry.items after.items) }
+{
+    let here = &stops[at];
+    match here.exchange() {
+        Some(from) => spread(objects, bindings, publication, from, stops),
+        None => Ok(stops),
+    }
+}
+
+/// What the message reaches from its exchange: each exchange and queue once.
+pub(crate) fn reach<'a>(
+    alloc: Global,
+    objects: &[Object],
+    bindings: &'a [Binding],
+    publication: Publication<'a>,
+) -> Result<Vec<Reached<'a>>, AllocError>
+    ensures { IfOk result (λ stops. AreStops (record { objects = objects.now; bindings = bindings.now }) (publish publication.entry.exchange.now publication.entry.key.now (table_view publication.entry.headers.now)) stops.items) }
+{
+    let mut stops = Vec::new(alloc);
+    stops.push(Reached {
+        sort: Sort::Exchange,
+        name: publication.exchange,
+    })?;
+    let mut next = 0;
+    while next < stops.len() {
+        stops = spread_at(objects, bindings, publication, next, stops)?;
+        next += 1;
+    }
+    Ok(stops)
+}
+
+/// The queue to which the default exchange leads, unless its name is reserved.
+pub(crate) fn reach_named<'a>(
+    alloc: Global,
+    publication: Publication<'a>,
+) -> Result<Vec<Reached<'a>>, AllocError>
+    ensures { IfOk result (λ stops. stops.items ≡ (if is_reserved_name publication.entry.key.now then [] else queue_stop publication.entry.key.now ∷ [])) }
+{
+    let mut stops = Vec::new(alloc);
+    if !is_reserved(publication.key) {
+        stops.push(Reached {
+            sort: Sort::Queue,
+            name: publication.key,
+        })?;
+    }
+    Ok(stops)
+}
+
+fn is_reserved(name: &str) -> bool
+    ensures { result ≡ is_reserved_name name.now }
+{
+    name.as_bytes().starts_with(RESERVED)
+}
