@@ -1,4 +1,6 @@
 pub mod Fields
 pub mod Reading
+pub mod Same
+pub mod SameLaws
 pub mod Tables
 pub mod View

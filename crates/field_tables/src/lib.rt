@@ -6,6 +6,7 @@ mod fault;
 mod kind;
 mod laws;
 mod reading;
+mod same;
 mod value;
 mod writing;
 

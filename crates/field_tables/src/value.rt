@@ -2,7 +2,7 @@
 
 /// A value of a field table, by the kinds of RabbitMQ's table of field types.
 #[cycle(table)]
-#[derive(PartialEq, Debug, Drop)]
+#[derive(Debug, Drop)]
 pub enum FieldValue {
     /// `t`: a truth value.
     Bool(bool),
@@ -42,7 +42,7 @@ pub enum FieldValue {
 
 /// Names and values in order; a name may stand more than once.
 #[cycle(table)]
-#[derive(PartialEq, Debug, Drop)]
+#[derive(Debug, Drop)]
 pub struct Table {
     /// The names, which are UTF-8, each with its value.
     pub pairs: Vec<(String, FieldValue)>,

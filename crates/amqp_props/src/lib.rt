@@ -1,0 +1,28 @@
+//! The properties of a message and its content header, messages, and the descriptions of links.
+#![tactic(auto)]
+
+mod fault;
+mod laws;
+mod link;
+mod message;
+mod properties;
+mod reading;
+mod row;
+mod text;
+mod writing;
+
+pub use fault::PropsFault;
+pub use laws::headers_are_one;
+pub use link::{
+    AckMode, DeleteAfter, ExchangeKind, LinkKind, LinkSpec, Place, QueueOptions, SourceAt,
+    StartState, TargetAt,
+};
+pub use message::Message;
+pub use properties::Properties;
+pub use reading::read_header;
+pub use row::{PROPERTIES, PropertyKind, Row, property};
+pub use text::{FieldTable, Octets, Text};
+pub use writing::write_header;
+
+#[cfg(test)]
+mod tests;
