@@ -149,10 +149,6 @@ no_props = record {
   reserved = None;
 }
 
--- what an object of properties says
-abbrev pub some_props : Data → Option Properties
-some_props d = Some (props_of d)
-
 -- ---- keys with an older name
 
 -- the key stands in the object
@@ -215,6 +211,12 @@ target_queue_fault d = optional_fault (alone_refusal (has_key (codes "dest-excha
 
 -- ---- the whole
 
+-- the properties under the newer name, or where it isn't there under the older
+abbrev pub props_or_none : Option Data → Option Data → Properties
+props_or_none (Some newer) older = props_of newer
+props_or_none None (Some older) = props_of older
+props_or_none None None = no_props
+
 -- the defaults of keys that aren't there
 abbrev pub mode_or_default : Data → AckMode
 mode_or_default d = unwrap_or (value_at mode_at (codes "ack-mode") d) OnConfirm
@@ -237,7 +239,7 @@ shovel_of d = record {
   delay = delay_or_default d;
   delete_after = unwrap_or (value_at_either delete_at (codes "src-delete-after") (codes "delete-after") d) Never;
   stamp = stamp_or_default d;
-  props = unwrap_or (value_at_either some_props (codes "dest-publish-properties") (codes "publish-properties") d) no_props;
+  props = props_or_none (get (codes "dest-publish-properties") d) (get (codes "publish-properties") d);
 }
 
 -- the faults of the keys in the order of their octets, in four parts: to `dest-add-forward-headers`
@@ -250,11 +252,16 @@ front_fault d = first_fault (
     ∷ [])
 
 -- from `dest-exchange` to `dest-uri`
-unfoldable pub target_fault : Data → Option KeyFault
-target_fault d = first_fault (
+unfoldable pub target_names_fault : Data → Option KeyFault
+target_names_fault d = first_fault (
     optional_fault exchange_refusal (codes "dest-exchange") d
     ∷ fault_with short_text_refusal (codes "dest-exchange") (codes "dest-exchange-key") d
     ∷ optional_fault protocol_refusal (codes "dest-protocol") d
+    ∷ [])
+
+unfoldable pub target_fault : Data → Option KeyFault
+target_fault d = first_fault (
+    target_names_fault d
     ∷ optional_fault props_refusal (codes "dest-publish-properties") d
     ∷ target_queue_fault d
     ∷ required_fault uris_refusal (codes "dest-uri") d
@@ -270,15 +277,16 @@ middle_fault d = first_fault (
     ∷ [])
 
 -- from `src-exchange` on
-unfoldable pub source_fault : Data → Option KeyFault
-source_fault d = first_fault (
+unfoldable pub source_names_fault : Data → Option KeyFault
+source_names_fault d = first_fault (
     optional_fault exchange_refusal (codes "src-exchange") d
     ∷ fault_with short_text_refusal (codes "src-exchange") (codes "src-exchange-key") d
     ∷ optional_fault (number_refusal 0 most_prefetch) (codes "src-prefetch-count") d
     ∷ optional_fault protocol_refusal (codes "src-protocol") d
-    ∷ source_queue_fault d
-    ∷ required_fault uris_refusal (codes "src-uri") d
     ∷ [])
+
+unfoldable pub source_fault : Data → Option KeyFault
+source_fault d = first_fault (source_names_fault d ∷ source_queue_fault d ∷ required_fault uris_refusal (codes "src-uri") d ∷ [])
 
 unfoldable pub shovel_fault : Data → Option KeyFault
 shovel_fault d = first_fault (front_fault d ∷ target_fault d ∷ middle_fault d ∷ source_fault d ∷ [])

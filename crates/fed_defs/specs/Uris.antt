@@ -55,11 +55,14 @@ uris_from d (Some items) = texts_of items
 unfoldable pub uris_of : Data → List (List ℕ)
 uris_of d = uris_from d (as_array d)
 
--- each has to be one, and a list must not be empty
+-- a list must not be empty, and each of it has to be a URI
+unfoldable pub list_refusal : Items → Option Refusal
+list_refusal no_items = Some Shape
+list_refusal (item d ds) = items_refusal (item d ds)
+
 abbrev pub refusal_from : Data → Option Items → Option Refusal
 refusal_from d None = uri_refusal d
-refusal_from d (Some no_items) = Some Shape
-refusal_from d (Some (item e es)) = items_refusal (item e es)
+refusal_from d (Some items) = list_refusal items
 
 unfoldable pub uris_refusal : Data → Option Refusal
 uris_refusal d = refusal_from d (as_array d)

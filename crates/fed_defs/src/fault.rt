@@ -55,6 +55,17 @@ impl From<AllocError> for Refusal {
     }
 }
 
+impl From<AllocError> for KeyFault {
+    ghost use Rattle.std.specs.Prelude.{◌≡◌};
+    ghost use Rattle.fed_defs.specs.declared.fault.KeyFault.TheVariants.{Memory};
+
+    ghost from_gives = { λ _ fault. fault ≡ Memory };
+
+    fn from(_: AllocError) -> KeyFault {
+        KeyFault::Memory
+    }
+}
+
 impl<T: Drop> From<AllocFailed<T>> for Refusal {
     ghost use Rattle.std.specs.Prelude.{◌≡◌};
     ghost use Rattle.fed_defs.specs.declared.fault.Refusal.TheVariants.{Memory};

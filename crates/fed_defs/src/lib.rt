@@ -7,6 +7,8 @@ mod props;
 mod setting;
 mod settings;
 mod shovel;
+#[cfg(test)]
+mod tests;
 mod upstream;
 mod uris;
 mod value;

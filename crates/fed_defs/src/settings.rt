@@ -9,9 +9,9 @@ ghost use Rattle.fed_defs.specs.Shovels.{value_with, value_without, fault_with, 
 
 use crate::fault::{KeyFault, Refusal};
 use crate::keys::{number_at, refused, value_of};
-use crate::props::{props_of, props_refusal};
+use crate::props::props_refusal;
 use crate::setting::{check_protocol, read_delete, read_exchange, read_flag, read_short_text};
-use amqp_props::{DeleteAfter, Properties, Text};
+use amqp_props::{DeleteAfter, Text};
 use serde_json::Value;
 use std::alloc::Global;
 
@@ -90,23 +90,19 @@ fn text_at(alloc: Global, value: &Value, key: &str) -> Result<Option<Text>, KeyF
     }
 }
 
-/// Reads the properties at the key.
+/// Checks the properties at the key.
 #[tactic(auto, unfolding(crate::specs::Keys::optional_fault))]
-pub(crate) fn props_at(alloc: Global, value: &Value, key: &str) -> Result<Option<Properties>, KeyFault>
-    ensures read { IfOk result (λ found. found ≡ value_at shovels.some_props key.now (view value.now)) }
+pub(crate) fn check_props_at(alloc: Global, value: &Value, key: &str) -> Result<(), KeyFault>
     ensures ok { OnOk result (optional_fault shovels.props_refusal key.now (view value.now) ≡ None) }
     ensures fault { IfErr result (λ fault. fault ≢ KeyFault.Memory
         → optional_fault shovels.props_refusal key.now (view value.now) ≡ Some fault) }
 {
     let Some(found) = value_of(value, key) else {
-        return Ok(None);
+        return Ok(());
     };
-    if let Some(why) = props_refusal(found) {
-        return Err(refused(alloc, key, why));
-    }
-    match props_of(alloc, found) {
-        Ok(props) => Ok(Some(props)),
-        Err(_) => Err(KeyFault::Memory),
+    match props_refusal(found) {
+        None => Ok(()),
+        Some(why) => Err(refused(alloc, key, why)),
     }
 }
 
@@ -187,24 +183,22 @@ pub(crate) fn prefetch_without(
     number_at(alloc, value, key, 0, 65_535)
 }
 
-/// Reads the properties at the key, which is looked at only where the other key isn't there.
+/// Checks the properties at the key, which is looked at only where the other key isn't there.
 #[tactic(auto, unfolding(crate::specs::Shovels::fault_without))]
-pub(crate) fn props_without(
+pub(crate) fn check_props_without(
     alloc: Global,
     value: &Value,
     other: &str,
     key: &str,
-) -> Result<Option<Properties>, KeyFault>
-    ensures read { IfOk result (λ found. found
-        ≡ value_without shovels.some_props other.now key.now (view value.now)) }
+) -> Result<(), KeyFault>
     ensures ok { OnOk result (fault_without shovels.props_refusal other.now key.now (view value.now) ≡ None) }
     ensures fault { IfErr result (λ fault. fault ≢ KeyFault.Memory
         → fault_without shovels.props_refusal other.now key.now (view value.now) ≡ Some fault) }
 {
     if has_key(value, other) {
-        return Ok(None);
+        return Ok(());
     }
-    props_at(alloc, value, key)
+    check_props_at(alloc, value, key)
 }
 
 /// Reads a text at the key, which is looked at only where the other key is there.

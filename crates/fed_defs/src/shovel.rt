@@ -1,26 +1,27 @@
 //! Shovels.
 ghost use Rattle.std.specs.Prelude.{◌≡◌, ◌≢◌, None, Some, IfOk, OnOk, IfErr, option_map, unwrap_or, codes, []};
 ghost use Rattle.serde_json.specs.View.{view};
-ghost use Rattle.serde_json.specs.Find.{as_str};
+ghost use Rattle.serde_json.specs.Find.{get, as_str};
 ghost use Rattle.fed_defs.specs.Keys.{named, value_at};
 ghost use Rattle.fed_defs.specs.Uris.{uris_at};
 ghost use Rattle.fed_defs.specs.Upstreams.{most_prefetch};
 ghost use Rattle.fed_defs.specs.Values.{number_in};
 ghost use Rattle.fed_defs.specs.Shovels as shovels;
-ghost use Rattle.fed_defs.specs.Shovels.{shovel_of, shovel_fault, value_without};
+ghost use Rattle.fed_defs.specs.Shovels.{shovel_of, shovel_fault, value_with, value_without};
 
 use crate::fault::{KeyFault, Refusal, ValueFault};
 use crate::keys::{mode_at, number_at, refused, uris_at, value_of};
+use crate::props::props_of;
 use crate::settings::{
-    check_protocol_at, delete_at, delete_without, exchange_at, flag_at, flag_without,
-    has_key, prefetch_without, props_at, props_without, text_with,
+    check_props_at, check_props_without, check_protocol_at, delete_at, delete_without, exchange_at, flag_at, flag_without,
+    has_key, prefetch_without, text_with,
 };
 use crate::upstream::{MOST_DELAY, MOST_PREFETCH, as_short};
 use crate::uris::Uris;
 use crate::value::{misfit, read_name};
 use amqp_props::{AckMode, DeleteAfter, Properties, SourceAt, TargetAt, Text};
 use serde_json::Value;
-use std::alloc::Global;
+use std::alloc::{AllocError, Global};
 
 /// A shovel (RabbitMQ, the parameter `shovel`).
 #[derive(Debug, Drop)]
@@ -55,10 +56,16 @@ struct Front {
     stamp: bool,
 }
 
+/// An exchange and a routing key, where they are named.
+#[derive(Drop)]
+struct ExchangeAt {
+    name: Option<Text>,
+    key: Option<Text>,
+}
+
 /// What is read from `dest-exchange` to `dest-uri`.
 #[derive(Drop)]
 struct Target {
-    props: Option<Properties>,
     at: TargetAt,
     uris: Uris,
 }
@@ -67,9 +74,16 @@ struct Target {
 #[derive(Drop)]
 struct Middle {
     older_prefetch: Option<u16>,
-    older_props: Option<Properties>,
     delay: u64,
     delete: Option<DeleteAfter>,
+}
+
+/// What is read from `src-exchange` to `src-protocol`.
+#[derive(Drop)]
+struct SourceNames {
+    exchange: Option<Text>,
+    key: Option<Text>,
+    prefetch: Option<u16>,
 }
 
 /// What is read from `src-exchange` on.
@@ -135,26 +149,37 @@ fn target_from(queue: Option<Text>, exchange: Option<Text>, key: Option<Text>) -
     }
 }
 
+/// Reads what stands from `dest-exchange` to `dest-protocol`.
+#[tactic(auto, unfolding(crate::specs::Shovels::target_names_fault))]
+fn read_target_names(alloc: Global, value: &Value) -> Result<ExchangeAt, KeyFault>
+    ensures name { IfOk result (λ at. at.name ≡ value_at as_str (codes "dest-exchange") (view value.now)) }
+    ensures key { IfOk result (λ at. at.key
+        ≡ value_with as_str (codes "dest-exchange") (codes "dest-exchange-key") (view value.now)) }
+    ensures ok { OnOk result (shovels.target_names_fault (view value.now) ≡ None) }
+    ensures fault { IfErr result (λ fault. fault ≢ KeyFault.Memory
+        → shovels.target_names_fault (view value.now) ≡ Some fault) }
+{
+    let name = exchange_at(alloc, value, "dest-exchange")?;
+    let key = text_with(alloc, value, "dest-exchange", "dest-exchange-key")?;
+    check_protocol_at(alloc, value, "dest-protocol")?;
+    Ok(ExchangeAt { name, key })
+}
+
 /// Reads what stands from `dest-exchange` to `dest-uri`.
 #[tactic(auto, unfolding(crate::specs::Shovels::target_fault, crate::specs::Shovels::target_of))]
 fn read_target(alloc: Global, value: &Value) -> Result<Target, KeyFault>
     ensures at { IfOk result (λ target. target.at ≡ shovels.target_of (view value.now)) }
-    ensures props { IfOk result (λ target. target.props
-        ≡ value_at shovels.some_props (codes "dest-publish-properties") (view value.now)) }
     ensures uris { IfOk result (λ target. target.uris ≡ uris_at (codes "dest-uri") (view value.now)) }
     ensures ok { OnOk result (shovels.target_fault (view value.now) ≡ None) }
     ensures fault { IfErr result (λ fault. fault ≢ KeyFault.Memory
         → shovels.target_fault (view value.now) ≡ Some fault) }
 {
-    let exchange = exchange_at(alloc, value, "dest-exchange")?;
-    let key = text_with(alloc, value, "dest-exchange", "dest-exchange-key")?;
-    check_protocol_at(alloc, value, "dest-protocol")?;
-    let props = props_at(alloc, value, "dest-publish-properties")?;
+    let exchange = read_target_names(alloc, value)?;
+    check_props_at(alloc, value, "dest-publish-properties")?;
     let queue = read_target_queue(alloc, value)?;
     let uris = uris_at(alloc, value, "dest-uri")?;
     Ok(Target {
-        props,
-        at: target_from(queue, exchange, key),
+        at: target_from(queue, exchange.name, exchange.key),
         uris,
     })
 }
@@ -164,8 +189,6 @@ fn read_target(alloc: Global, value: &Value) -> Result<Target, KeyFault>
 fn read_middle(alloc: Global, value: &Value) -> Result<Middle, KeyFault>
     ensures prefetch { IfOk result (λ middle. middle.older_prefetch
         ≡ value_without (number_in 0 most_prefetch) (codes "src-prefetch-count") (codes "prefetch-count") (view value.now)) }
-    ensures props { IfOk result (λ middle. middle.older_props ≡ value_without shovels.some_props
-        (codes "dest-publish-properties") (codes "publish-properties") (view value.now)) }
     ensures delay { IfOk result (λ middle. middle.delay ≡ shovels.delay_or_default (view value.now)) }
     ensures delete { IfOk result (λ middle. middle.delete
         ≡ value_at shovels.delete_at (codes "src-delete-after") (view value.now)) }
@@ -174,12 +197,11 @@ fn read_middle(alloc: Global, value: &Value) -> Result<Middle, KeyFault>
         → shovels.middle_fault (view value.now) ≡ Some fault) }
 {
     let older_prefetch = prefetch_without(alloc, value, "src-prefetch-count", "prefetch-count")?;
-    let older_props = props_without(alloc, value, "dest-publish-properties", "publish-properties")?;
+    check_props_without(alloc, value, "dest-publish-properties", "publish-properties")?;
     let delay = number_at(alloc, value, "reconnect-delay", 0, MOST_DELAY)?;
     let delete = delete_at(alloc, value, "src-delete-after")?;
     Ok(Middle {
         older_prefetch: as_short(older_prefetch),
-        older_props,
         delay: delay.unwrap_or(5),
         delete,
     })
@@ -232,6 +254,30 @@ fn text_or_empty(alloc: Global, text: Option<Text>) -> Text
     }
 }
 
+/// Reads what stands from `src-exchange` to `src-protocol`.
+#[tactic(auto, unfolding(crate::specs::Shovels::source_names_fault))]
+fn read_source_names(alloc: Global, value: &Value) -> Result<SourceNames, KeyFault>
+    ensures exchange { IfOk result (λ names. names.exchange
+        ≡ value_at as_str (codes "src-exchange") (view value.now)) }
+    ensures key { IfOk result (λ names. names.key
+        ≡ value_with as_str (codes "src-exchange") (codes "src-exchange-key") (view value.now)) }
+    ensures prefetch { IfOk result (λ names. names.prefetch
+        ≡ value_at (number_in 0 most_prefetch) (codes "src-prefetch-count") (view value.now)) }
+    ensures ok { OnOk result (shovels.source_names_fault (view value.now) ≡ None) }
+    ensures fault { IfErr result (λ fault. fault ≢ KeyFault.Memory
+        → shovels.source_names_fault (view value.now) ≡ Some fault) }
+{
+    let exchange = exchange_at(alloc, value, "src-exchange")?;
+    let key = text_with(alloc, value, "src-exchange", "src-exchange-key")?;
+    let prefetch = number_at(alloc, value, "src-prefetch-count", 0, MOST_PREFETCH)?;
+    check_protocol_at(alloc, value, "src-protocol")?;
+    Ok(SourceNames {
+        exchange,
+        key,
+        prefetch: as_short(prefetch),
+    })
+}
+
 /// Reads what stands from `src-exchange` on.
 #[tactic(auto, unfolding(crate::specs::Shovels::source_fault, crate::specs::Shovels::source_of))]
 fn read_source(alloc: Global, value: &Value) -> Result<Source, KeyFault>
@@ -243,15 +289,12 @@ fn read_source(alloc: Global, value: &Value) -> Result<Source, KeyFault>
     ensures fault { IfErr result (λ fault. fault ≢ KeyFault.Memory
         → shovels.source_fault (view value.now) ≡ Some fault) }
 {
-    let exchange = exchange_at(alloc, value, "src-exchange")?;
-    let key = text_with(alloc, value, "src-exchange", "src-exchange-key")?;
-    let prefetch = number_at(alloc, value, "src-prefetch-count", 0, MOST_PREFETCH)?;
-    check_protocol_at(alloc, value, "src-protocol")?;
+    let names = read_source_names(alloc, value)?;
     let queue = read_source_queue(alloc, value)?;
     let uris = uris_at(alloc, value, "src-uri")?;
     Ok(Source {
-        prefetch: as_short(prefetch),
-        at: source_from(alloc, queue, exchange, key),
+        prefetch: names.prefetch,
+        at: source_from(alloc, queue, names.exchange, names.key),
         uris,
     })
 }
@@ -278,6 +321,20 @@ fn no_props() -> Properties
     }
 }
 
+/// The properties that a shovel sets.
+fn read_props(alloc: Global, value: &Value) -> Result<Properties, AllocError>
+    ensures { IfOk result (λ props. props ≡ shovels.props_or_none
+        (get (codes "dest-publish-properties") (view value.now)) (get (codes "publish-properties") (view value.now))) }
+{
+    if let Some(newer) = value_of(value, "dest-publish-properties") {
+        return props_of(alloc, newer);
+    }
+    match value_of(value, "publish-properties") {
+        Some(older) => props_of(alloc, older),
+        None => Ok(no_props()),
+    }
+}
+
 /// Reads a shovel.
 #[tactic(auto, unfolding(crate::specs::Shovels::shovel_of, crate::specs::Shovels::shovel_fault))]
 pub(crate) fn read_keys(alloc: Global, value: &Value) -> Result<ShovelDef, KeyFault>
@@ -289,6 +346,7 @@ pub(crate) fn read_keys(alloc: Global, value: &Value) -> Result<ShovelDef, KeyFa
     let target = read_target(alloc, value)?;
     let middle = read_middle(alloc, value)?;
     let source = read_source(alloc, value)?;
+    let props = read_props(alloc, value)?;
     Ok(ShovelDef {
         sources: source.uris,
         targets: target.uris,
@@ -299,7 +357,7 @@ pub(crate) fn read_keys(alloc: Global, value: &Value) -> Result<ShovelDef, KeyFa
         delay: middle.delay,
         delete_after: middle.delete.or(front.older_delete).unwrap_or(DeleteAfter::Never),
         stamp: front.stamp,
-        props: target.props.or(middle.older_props).unwrap_or(no_props()),
+        props,
     })
 }
 

@@ -65,7 +65,7 @@ impl Model for Uris {
 
 impl Uris {
     /// The URIs of a list.
-    pub fn new(list: Vec<UriRead>) -> Self
+    pub(crate) fn new(list: Vec<UriRead>) -> Self
         ensures { result ≡ list.items }
     {
         Uris { list }
@@ -126,8 +126,22 @@ fn read_one(alloc: Global, value: &Value) -> Result<Vec<UriRead>, Refusal>
     Ok(list)
 }
 
+/// Reads the URIs of a list that must not be empty.
+#[tactic(auto, using(crate::proofs::UrisLemmas::filled_list, crate::proofs::UrisLemmas::empty_list))]
+fn read_filled(alloc: Global, items: &[Value]) -> Result<Vec<UriRead>, Refusal>
+    ensures read { IfOk result (λ list. list.items ≡ uris.texts_of (items_view items.now)) }
+    ensures ok { OnOk result (uris.list_refusal (items_view items.now) ≡ None) }
+    ensures refused { IfErr result (λ why. why ≢ Refusal.Memory
+        → uris.list_refusal (items_view items.now) ≡ Some why) }
+{
+    if items.is_empty() {
+        return Err(Refusal::Shape);
+    }
+    read_list(alloc, items)
+}
+
 /// Reads a text or a list of texts, each a URI.
-#[tactic(auto, using(crate::proofs::UrisLemmas::refusal_from_items), unfolding(crate::specs::Uris::uris_refusal, crate::specs::Uris::uris_of))]
+#[tactic(auto, unfolding(crate::specs::Uris::uris_refusal, crate::specs::Uris::uris_of))]
 pub(crate) fn read_uris(alloc: Global, value: &Value) -> Result<Uris, Refusal>
     ensures read { IfOk result (λ list. list ≡ uris.uris_of (view value.now)) }
     ensures ok { OnOk result (uris.uris_refusal (view value.now) ≡ None) }
@@ -136,8 +150,5 @@ pub(crate) fn read_uris(alloc: Global, value: &Value) -> Result<Uris, Refusal>
     let Some(items) = value.as_array() else {
         return Ok(Uris::new(read_one(alloc, value)?));
     };
-    if items.is_empty() {
-        return Err(Refusal::Shape);
-    }
-    Ok(Uris::new(read_list(alloc, items.as_slice())?))
+    Ok(Uris::new(read_filled(alloc, items.as_slice())?))
 }
