@@ -257,15 +257,11 @@ target_names_fault d = first_fault (
     optional_fault exchange_refusal (codes "dest-exchange") d
     ∷ fault_with short_text_refusal (codes "dest-exchange") (codes "dest-exchange-key") d
     ∷ optional_fault protocol_refusal (codes "dest-protocol") d
+    ∷ optional_fault props_refusal (codes "dest-publish-properties") d
     ∷ [])
 
 unfoldable pub target_fault : Data → Option KeyFault
-target_fault d = first_fault (
-    target_names_fault d
-    ∷ optional_fault props_refusal (codes "dest-publish-properties") d
-    ∷ target_queue_fault d
-    ∷ required_fault uris_refusal (codes "dest-uri") d
-    ∷ [])
+target_fault d = first_fault (target_names_fault d ∷ target_queue_fault d ∷ required_fault uris_refusal (codes "dest-uri") d ∷ [])
 
 -- from `prefetch-count` to `src-delete-after`
 unfoldable pub middle_fault : Data → Option KeyFault

@@ -149,7 +149,7 @@ fn target_from(queue: Option<Text>, exchange: Option<Text>, key: Option<Text>) -
     }
 }
 
-/// Reads what stands from `dest-exchange` to `dest-protocol`.
+/// Reads what stands from `dest-exchange` to `dest-publish-properties`.
 #[tactic(auto, unfolding(crate::specs::Shovels::target_names_fault))]
 fn read_target_names(alloc: Global, value: &Value) -> Result<ExchangeAt, KeyFault>
     ensures name { IfOk result (λ at. at.name ≡ value_at as_str (codes "dest-exchange") (view value.now)) }
@@ -162,6 +162,7 @@ fn read_target_names(alloc: Global, value: &Value) -> Result<ExchangeAt, KeyFaul
     let name = exchange_at(alloc, value, "dest-exchange")?;
     let key = text_with(alloc, value, "dest-exchange", "dest-exchange-key")?;
     check_protocol_at(alloc, value, "dest-protocol")?;
+    check_props_at(alloc, value, "dest-publish-properties")?;
     Ok(ExchangeAt { name, key })
 }
 
@@ -175,7 +176,6 @@ fn read_target(alloc: Global, value: &Value) -> Result<Target, KeyFault>
         → shovels.target_fault (view value.now) ≡ Some fault) }
 {
     let exchange = read_target_names(alloc, value)?;
-    check_props_at(alloc, value, "dest-publish-properties")?;
     let queue = read_target_queue(alloc, value)?;
     let uris = uris_at(alloc, value, "dest-uri")?;
     Ok(Target {
