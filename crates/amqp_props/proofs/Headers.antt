@@ -1,22 +1,22 @@
 -- A whole content header: what is read is spelled so, and what is spelled so is read.
-use Rattle.std.proofs.Common.{◌≡◌, ℕ, zero, suc, ◌+◌, ◌*◌, ◌/◌, ◌%◌, ◌^◌, ◌<◌, ◌≤◌, Bool, true, false, cond, ltb, eqb, List, [], ◌∷◌, ◌++◌, length, get_or, take, drop, Option, Some, None, is_some, option_map, Result, Ok, Err, IfSome, IfOk, refl, sym, ap, subst, ◌∙◌, append_assoc, arith}
-use Rattle.std.specs.Int.{Width, w16, w64, byte_len, from_be_bytes, to_be_bytes, bit_at}
-use Rattle.std.specs.List.{AllByRecursion}
+use Rattle.std.proofs.Common.{◌≡◌, ℕ, zero, suc, ◌+◌, ◌*◌, ◌%◌, ◌^◌, ◌<◌, ◌≤◌, Bool, true, false, cond, ltb, eqb, List, [], ◌∷◌, ◌++◌, length, take, drop, Option, Some, None, is_some, option_map, Result, Ok, Err, IfSome, IfOk, refl, sym, ap, subst, ◌∙◌, append_assoc, arith}
+use Rattle.std.specs.Int.{Width, w16, w64, byte_len, to_be_bytes, bit_at}
 use Rattle.std.proofs.lemmas.Bool.{ltb-false, le-ltb, eqb-true}
-use Rattle.std.proofs.lemmas.List.{take_at, drop_at, take-append-drop, length-append, length-take, length-drop, get_or-drop, drop-drop, append-nil}
+use Rattle.std.proofs.lemmas.List.{take-append-drop, length-take, length-drop, get_or-drop, drop-drop, append-nil}
 use Rattle.std.proofs.lemmas.Nat.{mod-pow-add, mod_below, from_be_bytes-to_be_bytes_2, from_be_bytes-to_be_bytes_8}
 use Rattle.std.proofs.lemmas.Nat.Bits.{bit_at-lt}
 use Rattle.std.proofs.Math.Nat.{pow-suc}
 use Rattle.field_tables.specs.Fields.{Pairs}
+use Rattle.field_tables.specs.Tables.{IsTable}
 use Rattle.field_tables.proofs.Octets.{IsBytes, IsBytes-take, IsWide, wide16, wide64, counted_text}
 use Rattle.amqp_props.specs.declared.row.PropertyKind.{PropertyKind}
 use Rattle.amqp_props.specs.declared.row.PropertyKind.TheVariants.{ShortString, Table, Octet, LongLong}
 use Rattle.amqp_props.specs.declared.fault.PropsFault.{PropsFault}
 use Rattle.amqp_props.specs.declared.fault.PropsFault.TheVariants.{Short, Class, Weight, Flags, Field, Trailing, Memory}
 use Rattle.amqp_props.specs.declared.properties.Properties.{Properties}
-use Rattle.amqp_props.specs.ContentHeader.{property_rows, Value, short_string, field_table, octet, longlong, kind_of, HasSpelling, HaveSpelling, optional_spelling, values_of, flags_of, values_spelling, payload_of, header_spelling, IsHeader}
-use Rattle.amqp_props.specs.HeaderReading.{◌>>=◌, Gives, Fails, property_at, properties_at, number_at, fixed_at, ended_at, header_at}
-use Rattle.amqp_props.proofs.Parts.{ok_is, IsRead, flag, property_takes, OfKind, property_again}
+use Rattle.amqp_props.specs.ContentHeader.{property_rows, Value, short_string, field_table, octet, longlong, HasSpelling, HaveSpelling, optional_spelling, values_of, flags_of, values_spelling, payload_of, header_spelling, IsHeader, IsShort, AreShort}
+use Rattle.amqp_props.specs.HeaderReading.{◌>>=◌, Gives, property_at, properties_at, number_at, fixed_at, ended_at, header_at}
+use Rattle.amqp_props.proofs.Parts.{ok_is, flag, property_takes, OfKind, property_again}
 
 abbrev Row : Type 0
 Row = ℕ × PropertyKind × List ℕ
@@ -408,3 +408,33 @@ is_read octets (Err (Weight n)) size props is spelled given = absurd (cc (header
 is_read octets (Err (Flags n)) size props is spelled given = absurd (cc (header_again size props is))
 is_read octets (Err (Field n)) size props is spelled given = absurd (cc (header_again size props is))
 is_read octets (Err (Trailing n)) size props is spelled given = absurd (cc (header_again size props is))
+
+-- what can be spelled is short
+
+text_short : (o : Option (List ℕ)) → IfSome (option_map short_string o) HasSpelling → IsShort o
+text_short None fits = tt
+text_short (Some text) fits = fits.fits
+
+table_short : (o : Option Pairs) → IfSome (option_map field_table o) HasSpelling → IfSome o IsTable
+table_short None fits = tt
+table_short (Some ps) fits = fits
+
+short_header : (size : ℕ) (p : Properties) → IsHeader size p → AreShort p
+unfolding values_of
+short_header size p is = record {
+  content_type = text_short p.content_type (is.values_fit.0);
+  content_encoding = text_short p.content_encoding (is.values_fit.1.0);
+  headers = table_short p.headers (is.values_fit.1.1.0);
+  correlation_id = text_short p.correlation_id (is.values_fit.1.1.1.1.1.0);
+  reply_to = text_short p.reply_to (is.values_fit.1.1.1.1.1.1.0);
+  expiration = text_short p.expiration (is.values_fit.1.1.1.1.1.1.1.0);
+  message_id = text_short p.message_id (is.values_fit.1.1.1.1.1.1.1.1.0);
+  type_name = text_short p.type_name (is.values_fit.1.1.1.1.1.1.1.1.1.1.0);
+  user_id = text_short p.user_id (is.values_fit.1.1.1.1.1.1.1.1.1.1.1.0);
+  app_id = text_short p.app_id (is.values_fit.1.1.1.1.1.1.1.1.1.1.1.1.0);
+  reserved = text_short p.reserved (is.values_fit.1.1.1.1.1.1.1.1.1.1.1.1.1.0);
+}
+
+pub is_short : (octets : List ℕ) (r : Result (ℕ × Properties) PropsFault) → IfOk r (λ x. IsHeader x.0 x.1 × (octets ≡ header_spelling x.0 x.1)) → IfOk r (λ x. AreShort x.1)
+is_short octets (Ok x) found = short_header x.0 x.1 found.0
+is_short octets (Err e) found = tt

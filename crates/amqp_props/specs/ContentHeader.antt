@@ -1,5 +1,5 @@
 -- The content header of a message: AMQP 0-9-1, section 4.2.6.1 "The Content Header", with the properties of class basic.
-use Rattle.std.specs.Prelude.{◌≡◌, ℕ, ◌+◌, ◌^◌, ◌<◌, List, [], ◌∷◌, ◌++◌, Option, Some, None, option_map, is_some, if◌then◌else◌, codes, length, map, IfSome}
+use Rattle.std.specs.Prelude.{ℕ, ◌+◌, ◌^◌, ◌<◌, List, [], ◌∷◌, ◌++◌, Option, Some, None, option_map, is_some, if◌then◌else◌, codes, length, IfSome}
 use Rattle.std.specs.Int.{w16, w64, to_be_bytes}
 use Rattle.std.specs.List.{AllByRecursion}
 use Rattle.field_tables.specs.Fields.{Pairs}

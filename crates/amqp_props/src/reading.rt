@@ -5,7 +5,7 @@ ghost use Rattle.std.specs.Str.{is_utf8};
 ghost use Rattle.std.specs.Int.{w16, w64, bit_at};
 ghost use Rattle.amqp_props.specs.declared.properties.Properties.{Properties};
 ghost use Rattle.amqp_props.specs.declared.row.PropertyKind.TheVariants as kinds;
-ghost use Rattle.amqp_props.specs.ContentHeader.{property_rows, short_string, field_table, octet, longlong, values_of, header_spelling, IsHeader};
+ghost use Rattle.amqp_props.specs.ContentHeader.{property_rows, short_string, field_table, octet, longlong, values_of, header_spelling, IsHeader, AreShort};
 ghost use Rattle.amqp_props.specs.HeaderReading.{Gives, found_at, text_at, property_at, properties_at, number_at, fixed_at, ended_at, header_at};
 
 use crate::fault::PropsFault;
@@ -245,6 +245,9 @@ fn header_of(alloc: Global, octets: &[u8]) -> Result<(u64, Properties), PropsFau
 pub fn read_header(alloc: Global, payload: &[u8]) -> Result<(u64, Properties), PropsFault>
     // What is read is spelled so.
     ensures found { IfOk result (λ x. IsHeader x.0 x.1 × (payload.now ≡ header_spelling x.0 x.1)) }
+
+    // What is read can be written again.
+    ensures short { IfOk result (λ x. AreShort x.1) }
 
     // What is spelled so is read, unless memory runs out.
     ensures only { (size : ℕ) (props : Properties) → IsHeader size props

@@ -1,4 +1,4 @@
-use Rattle.std.proofs.Common.{ap, ◌∙◌}
+use Rattle.std.proofs.Common.{◌∙◌}
 use Rattle.field_tables.specs.Same.{same_pairs}
 use Rattle.field_tables.specs.SameLaws.{tells, same_pairs_yes, same_pairs_self}
 use Rattle.amqp_props.proofs.text.FieldTablePartialEq.eq.Goals as goal
