@@ -53,7 +53,13 @@ pub(crate) fn mode_at(alloc: Global, value: &Value, key: &str) -> Result<Option<
 
 /// Reads a whole number at the key.
 #[tactic(auto, unfolding(crate::specs::Keys::optional_fault))]
-pub(crate) fn number_at(alloc: Global, value: &Value, key: &str, least: u64, most: u64) -> Result<Option<u64>, KeyFault>
+pub(crate) fn number_at(
+    alloc: Global,
+    value: &Value,
+    key: &str,
+    least: u64,
+    most: u64,
+) -> Result<Option<u64>, KeyFault>
     ensures read { IfOk result (λ number. number ≡ value_at (values.number_in least most) key.now (view value.now)) }
     ensures most { IfOk result (λ number. values.IsAtMost most number) }
     ensures ok { OnOk result (optional_fault (values.number_refusal least most) key.now (view value.now) ≡ None) }

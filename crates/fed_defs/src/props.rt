@@ -56,7 +56,10 @@ fn count_refusal(value: &Value) -> Option<Refusal>
 fn is_identity(key: &str) -> bool
     ensures { result ≡ shovels.is_identity key.now }
 {
-    is_word(key, "message_id") || is_word(key, "type") || is_word(key, "user_id") || is_word(key, "app_id")
+    is_word(key, "message_id")
+        || is_word(key, "type")
+        || is_word(key, "user_id")
+        || is_word(key, "app_id")
 }
 
 /// Whether the property is a text.

@@ -41,7 +41,11 @@ pub(crate) fn flag_at(alloc: Global, value: &Value, key: &str) -> Result<Option<
 
 /// Reads when the shovel removes itself at the key.
 #[tactic(auto, unfolding(crate::specs::Keys::optional_fault))]
-pub(crate) fn delete_at(alloc: Global, value: &Value, key: &str) -> Result<Option<DeleteAfter>, KeyFault>
+pub(crate) fn delete_at(
+    alloc: Global,
+    value: &Value,
+    key: &str,
+) -> Result<Option<DeleteAfter>, KeyFault>
     ensures read { IfOk result (λ found. found ≡ value_at shovels.delete_at key.now (view value.now)) }
     ensures ok { OnOk result (optional_fault shovels.delete_refusal key.now (view value.now) ≡ None) }
     ensures fault { IfErr result (λ fault. fault ≢ KeyFault.Memory

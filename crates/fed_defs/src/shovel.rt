@@ -13,8 +13,8 @@ use crate::fault::{KeyFault, Refusal, ValueFault};
 use crate::keys::{mode_at, number_at, refused, uris_at, value_of};
 use crate::props::props_of;
 use crate::settings::{
-    check_props_at, check_props_without, check_protocol_at, delete_at, delete_without, exchange_at, flag_at, flag_without,
-    has_key, prefetch_without, text_with,
+    check_props_at, check_props_without, check_protocol_at, delete_at, delete_without, exchange_at,
+    flag_at, flag_without, has_key, prefetch_without, text_with,
 };
 use crate::upstream::{MOST_DELAY, MOST_PREFETCH, as_short};
 use crate::uris::Uris;
@@ -106,7 +106,12 @@ fn read_front(alloc: Global, value: &Value) -> Result<Front, KeyFault>
         → shovels.front_fault (view value.now) ≡ Some fault) }
 {
     let mode = mode_at(alloc, value, "ack-mode")?;
-    let older_stamp = flag_without(alloc, value, "dest-add-forward-headers", "add-forward-headers")?;
+    let older_stamp = flag_without(
+        alloc,
+        value,
+        "dest-add-forward-headers",
+        "add-forward-headers",
+    )?;
     let older_delete = delete_without(alloc, value, "src-delete-after", "delete-after")?;
     let stamp = flag_at(alloc, value, "dest-add-forward-headers")?;
     Ok(Front {
@@ -197,7 +202,12 @@ fn read_middle(alloc: Global, value: &Value) -> Result<Middle, KeyFault>
         → shovels.middle_fault (view value.now) ≡ Some fault) }
 {
     let older_prefetch = prefetch_without(alloc, value, "src-prefetch-count", "prefetch-count")?;
-    check_props_without(alloc, value, "dest-publish-properties", "publish-properties")?;
+    check_props_without(
+        alloc,
+        value,
+        "dest-publish-properties",
+        "publish-properties",
+    )?;
     let delay = number_at(alloc, value, "reconnect-delay", 0, MOST_DELAY)?;
     let delete = delete_at(alloc, value, "src-delete-after")?;
     Ok(Middle {
@@ -232,7 +242,12 @@ fn read_source_queue(alloc: Global, value: &Value) -> Result<Option<Text>, KeyFa
 }
 
 /// What a shovel takes from.
-fn source_from(alloc: Global, queue: Option<Text>, exchange: Option<Text>, key: Option<Text>) -> SourceAt
+fn source_from(
+    alloc: Global,
+    queue: Option<Text>,
+    exchange: Option<Text>,
+    key: Option<Text>,
+) -> SourceAt
     ensures { result ≡ shovels.source_from queue exchange key }
 {
     match queue {
@@ -355,7 +370,10 @@ pub(crate) fn read_keys(alloc: Global, value: &Value) -> Result<ShovelDef, KeyFa
         mode: front.mode,
         prefetch: source.prefetch.or(middle.older_prefetch).unwrap_or(1000),
         delay: middle.delay,
-        delete_after: middle.delete.or(front.older_delete).unwrap_or(DeleteAfter::Never),
+        delete_after: middle
+            .delete
+            .or(front.older_delete)
+            .unwrap_or(DeleteAfter::Never),
         stamp: front.stamp,
         props,
     })
