@@ -10,7 +10,8 @@ pub struct Case<'a> {
     pub name: &'a str,
     /// The words of the command line.
     pub words: &'a str,
-    /// What the shelf holds: for each file `NAME=FILE`, where FILE.schedule of the folder is its content.
+    /// What the shelf holds: for each file `NAME=FILE`, where FILE.schedule of the folder is its content, or
+    /// `NAME=FILE*COUNT` for that content so many times.
     pub files: &'a str,
     /// The loads that fail, as `failing_calls` reads them.
     pub loads: &'a str,

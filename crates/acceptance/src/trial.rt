@@ -18,13 +18,28 @@ fn words_of(alloc: Global, case: &Case<'_>) -> Result<Vec<String>> {
     Ok(words)
 }
 
+/// The content of a file of the folder: `FILE`, or `FILE*COUNT` for its content so many times.
+fn content_of(rt: &(impl Files + AllocGlobal), source: &str) -> Result<Vec<u8>> {
+    let alloc = rt.alloc();
+    let (source, count) = match source.split_once('*') {
+        Some((source, count)) => (source, count.parse::<usize>()?),
+        None => (source, 1),
+    };
+    let path = format!(in alloc; "{source}.schedule")?;
+    let piece = fs::read(rt, path.as_str()).context(format_args!("reading {path}"))?;
+    let mut content = Vec::new(alloc);
+    for _ in 0..count {
+        content.extend_from_slice(piece.as_slice())?;
+    }
+    Ok(content)
+}
+
 fn shelf_of(rt: &(impl Files + AllocGlobal), case: &Case<'_>) -> Result<MemShelf> {
     let alloc = rt.alloc();
     let mut files = Vec::new(alloc);
     for item in items(alloc, case.files)? {
         let (name, source) = item.split_once('=').context("a file without `=`")?;
-        let path = format!(in alloc; "{source}.schedule")?;
-        let content = fs::read(rt, path.as_str()).context(format_args!("reading {path}"))?;
+        let content = content_of(rt, source)?;
         files.push(MemFile::new(String::from_str(alloc, name)?, content))?;
     }
     Ok(MemShelf::new(files, failing_calls(alloc, case.loads)?))

@@ -107,9 +107,17 @@ fn first_fault(rt: HostRuntime) {
             FrameFault::BadKind { at: 8, octet: 0 },
             0,
         ),
+    ] {
+        assert_eq!(rt; fault_of(rt.alloc(), header, stream), (Some(want), before));
+    }
+}
+
+#[test]
+fn first_fault_of_a_frame(rt: HostRuntime) {
+    for (header, stream, want, before) in [
         (
             false,
-            b"\x01\x00\x00\x00\x01\xff\xf9",
+            b"\x01\x00\x00\x00\x01\xff\xf9".as_slice(),
             FrameFault::TooLarge {
                 at: 0,
                 size: 131_065,
@@ -131,6 +139,11 @@ fn first_fault(rt: HostRuntime) {
     ] {
         assert_eq!(rt; fault_of(rt.alloc(), header, stream), (Some(want), before));
     }
+}
+
+/// A size is judged as one number, once its fourth octet is there.
+#[test]
+fn a_size_that_is_not_whole(rt: HostRuntime) {
     for part in 0..7 {
         assert_eq!(rt;
             fault_of(

@@ -145,7 +145,7 @@ fn faults_of_the_head(rt: HostRuntime) {
 
 /// The payloads end where an argument, or a part of it, is missing, or hold a text that is not UTF-8.
 #[test]
-fn faults_of_arguments(rt: HostRuntime) {
+fn faults_of_arguments_of_connections(rt: HostRuntime) {
     refuses(&rt, rt.alloc(), &[0, 10, 0, 10, 0], MethodFault::Field(1));
     refuses(
         &rt,
@@ -183,6 +183,10 @@ fn faults_of_arguments(rt: HostRuntime) {
         &[0, 10, 0, 40, 1, 47, 0],
         MethodFault::Field(2),
     );
+}
+
+#[test]
+fn faults_of_arguments_of_other_classes(rt: HostRuntime) {
     refuses(
         &rt,
         rt.alloc(),

@@ -3,6 +3,7 @@
 
 mod fault;
 mod laws;
+mod length;
 mod link;
 mod message;
 mod properties;
@@ -13,6 +14,7 @@ mod writing;
 
 pub use fault::PropsFault;
 pub use laws::headers_are_one;
+pub use length::header_len;
 pub use link::{
     AckMode, DeleteAfter, ExchangeKind, LinkKind, LinkSpec, Place, QueueOptions, SourceAt,
     StartState, TargetAt,

@@ -4,6 +4,9 @@ use std::alloc::{AllocError, Global};
 use std::process::Abort;
 use std::test::Fail;
 
+/// The header of an empty body with no property.
+const EMPTY: [u8; 14] = [0, 60, 0, 0, 0, 0, 0, 0, 0, 0, 0, 0, 0, 0];
+
 /// The header of a body of two octets with delivery mode 2, as clients of RabbitMQ send it.
 const PERSISTENT: [u8; 15] = [0, 60, 0, 0, 0, 0, 0, 0, 0, 0, 0, 2, 16, 0, 2];
 
@@ -37,6 +40,16 @@ fn written_back(rt: HostRuntime) -> Result<(), Fail> {
     assert_eq!(rt; out.as_slice(), PERSISTENT.as_slice());
     let out = rewritten(rt.alloc(), &EACH)?;
     assert_eq!(rt; out.as_slice(), EACH.as_slice());
+    Ok(())
+}
+
+/// What each of them has on the wire, without writing it.
+#[test]
+fn lengths(rt: HostRuntime) -> Result<(), Fail> {
+    for payload in [EMPTY.as_slice(), &PERSISTENT, &EACH] {
+        let (_, props) = read_header(rt.alloc(), payload)?;
+        assert_eq!(rt; header_len(&props), payload.len());
+    }
     Ok(())
 }
 

@@ -1,6 +1,6 @@
 -- What single values of upstreams and shovels mean, and which are refused: RabbitMQ's "Federation Reference" and
 -- "Configuring Dynamic Shovels", over the values of JSON (RFC 8259, section 3).
-use Rattle.std.specs.Prelude.{ℕ, ◌≤◌, IfSome, Bool, false, not, ◌&&◌, ◌==◌, List, length, nat_eq, nat_le, nat_lt, codes, Option, Some, None, is_some, option_map, option_and_then, unwrap_or, if◌then◌else◌}
+use Rattle.std.specs.Prelude.{ℕ, ◌≤◌, IfSome, Bool, false, not, ◌&&◌, ◌==◌, List, length, nat_eq, nat_le, nat_lt, codes, Option, Some, None, option_map, option_and_then, unwrap_or, if◌then◌else◌}
 use Rattle.std.specs.List.{starts_with}
 use Rattle.std.specs.Cmp.Lexicographic.{pointwise}
 use Rattle.serde_json.specs.Data.{Data}

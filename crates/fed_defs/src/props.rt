@@ -15,7 +15,7 @@ use std::alloc::{AllocError, Global};
 
 /// Why the value is refused as a text.
 #[tactic(auto, unfolding(crate::specs::Shovels::short_text_refusal))]
-fn short_text_refusal(value: &Value) -> Option<Refusal>
+pub(crate) fn short_text_refusal(value: &Value) -> Option<Refusal>
     ensures { result ≡ shovels.short_text_refusal (view value.now) }
 {
     match value.as_str() {

@@ -79,7 +79,11 @@ pub(crate) fn exchange_at(alloc: Global, value: &Value, key: &str) -> Result<Opt
 
 /// Reads a text at the key.
 #[tactic(auto, unfolding(crate::specs::Keys::optional_fault))]
-fn text_at(alloc: Global, value: &Value, key: &str) -> Result<Option<Text>, KeyFault>
+pub(crate) fn short_text_at(
+    alloc: Global,
+    value: &Value,
+    key: &str,
+) -> Result<Option<Text>, KeyFault>
     ensures read { IfOk result (λ found. found ≡ value_at as_str key.now (view value.now)) }
     ensures ok { OnOk result (optional_fault shovels.short_text_refusal key.now (view value.now) ≡ None) }
     ensures fault { IfErr result (λ fault. fault ≢ KeyFault.Memory
@@ -222,5 +226,5 @@ pub(crate) fn text_with(
     if !has_key(value, other) {
         return Ok(None);
     }
-    text_at(alloc, value, key)
+    short_text_at(alloc, value, key)
 }

@@ -315,7 +315,7 @@ fn read_source(alloc: Global, value: &Value) -> Result<Source, KeyFault>
 }
 
 /// No properties.
-fn no_props() -> Properties
+pub fn no_props() -> Properties
     ensures { result ≡ shovels.no_props }
 {
     Properties {

@@ -1,7 +1,8 @@
 //! Values from RabbitMQ's guides and from a broker's export, and refusals worked out by hand.
 
-use crate::{ValueFault, read_shovel, read_upstream};
+use crate::{Sequence, SharedPattern, ValueFault, no_props, read_shovel, read_upstream};
 use amqp_props::{AckMode, SourceAt, TargetAt, Text};
+use policy_core::Pattern;
 use serde_json::Value;
 use std::alloc::Global;
 use std::test::Fail;
@@ -85,4 +86,28 @@ fn refused_shovels(rt: HostRuntime) {
     ] {
         assert!(rt; shovel_lacks(rt.alloc(), text, key), "at {text}");
     }
+}
+
+#[test]
+fn shared_pattern(rt: HostRuntime) -> Result<(), Fail> {
+    let alloc = rt.alloc();
+    let pattern = SharedPattern::new(alloc, Pattern::build(alloc, "^amq\\.")?)?;
+    let copy = pattern.clone()?;
+    assert_eq!(rt; copy.text(), "^amq\\.");
+    assert!(rt; copy.found(alloc, "amq.topic")?);
+    assert!(rt; !copy.share()?.found(alloc, "topic")?);
+    Ok(())
+}
+
+#[test]
+fn lists(rt: HostRuntime) -> Result<(), Fail> {
+    let alloc = rt.alloc();
+    let names = Sequence::new(vec![in alloc;
+        Text::from_str(alloc, "q")?,
+        Text::from_str(alloc, "x")?,
+    ]?);
+    assert_eq!(rt; names.as_slice().len(), 2);
+    assert_eq!(rt; names.as_slice()[1].as_str(), "x");
+    assert!(rt; no_props().headers.is_none());
+    Ok(())
 }

@@ -1,12 +1,14 @@
 -- Publications, their copies, and what becomes of a copy.
 use Rattle.std.specs.Prelude.{ℕ, ◌+◌, ◌-◌, ◌<◌, ◌^◌, List, [], ◌∷◌, Bool, false, true, ◌&&◌, ◌||◌, not, length, count_by, sum_by, filter_map, fold, take, drop, Option, Some, None, option_map, if◌then◌else◌, ◌==◌, nat_le, nat_lt, position}
 use Rattle.std.specs.List.{list_any, list_all, slice_get}
+use Rattle.field_tables.specs.Tables.{IsTable}
 use Rattle.fed_journal.specs.declared.place.Place.{Place}
-use Rattle.fed_journal.specs.declared.place.QueueOptions.{QueueOptions}
+use Rattle.amqp_props.specs.declared.link.QueueOptions.{QueueOptions}
 use Rattle.fed_journal.specs.declared.entry.Publication.{Publication}
 use Rattle.fed_journal.specs.declared.entry.Entry.{Entry}
-use Rattle.fed_journal.specs.declared.entry.Entry.TheVariants.{Published, Flushed, Took, Delivered, Acked, Rejected, Requeued, Purged, Closed, Settled}
+use Rattle.fed_journal.specs.declared.entry.Entry.TheVariants.{Published, Bound, Flushed, Took, Delivered, Acked, Rejected, Requeued, Purged, Closed, Settled}
 use Rattle.fed_journal.specs.Configuration.{queue_options}
+use Rattle.fed_journal.specs.Messages.{is_persistent}
 use Rattle.fed_journal.specs.Names.{same_text, same_place}
 use Rattle.fed_journal.specs.Holders.{Holder, Session, Channel, is_connection}
 
@@ -25,10 +27,11 @@ publication_count J = count_by is_publication J
 unfoldable pub copy_count : List Entry → ℕ
 copy_count J = sum_by copies_made J
 
--- the numbers of a publication's copies fit 64 bits
-abbrev pub IsNumbered : Entry → Type 0
-IsNumbered (Published x) = x.first + length x.queues < 2 ^ 64
-IsNumbered _ = Unit {0}
+-- what an entry says fits: the numbers of a publication's copies 64 bits, the arguments of a binding a field table (AMQP 0-9-1, 4.2.5.5)
+abbrev pub IsFitting : Entry → Type 0
+IsFitting (Published x) = x.first + length x.queues < 2 ^ 64
+IsFitting (Bound place binding) = IsTable binding.args
+IsFitting _ = Unit {0}
 
 -- the copy that a publication brought into the queue
 abbrev pub entered_by : Place → List ℕ → Entry → Option ℕ
@@ -72,7 +75,7 @@ flushes b _ = false
 -- the copy's message is persistent and its queue is lasting, where J is the journal before its publication x
 abbrev pub must_be_stored_at : List Entry → Option Publication → ℕ → Bool
 must_be_stored_at J None c = false
-must_be_stored_at J (Some x) c = x.message.persistent && is_lasting_at J x.place (slice_get x.queues (c - x.first))
+must_be_stored_at J (Some x) c = is_persistent x.message && is_lasting_at J x.place (slice_get x.queues (c - x.first))
 
 -- its broker flushed in the journal J after its publication x
 abbrev pub is_flushed_in : List Entry → Option Publication → Bool

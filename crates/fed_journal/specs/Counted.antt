@@ -1,8 +1,9 @@
 -- How a journal keeps its counts.
 use Rattle.std.specs.Prelude.{◌≡◌, ◌-◌, ◌*◌, ◌^◌, ◌≤◌, length, min, vec_len, vec_capacity}
-use Rattle.fed_journal.specs.declared.journal.TheConstants.{MAX_ENTRIES}
+use Rattle.fed_journal.specs.declared.journal.TheConstants.{MAX_ENTRIES, MAX_BYTES}
 use Rattle.fed_journal.specs.declared.journal.Journal.TheInside.{Inside}
 use Rattle.fed_journal.specs.Copies.{publication_count, copy_count}
+use Rattle.fed_journal.specs.Sizes.{byte_count}
 use Rattle.fed_journal.specs.View.{View}
 
 -- an entry has its room where the vector has it and the journal's limit leaves it
@@ -14,4 +15,6 @@ pub record IsCounted (j : Inside) : Type 0 where
   pub copies : j.copies ≡ copy_count j.items.items
   pub within : length j.items.items ≤ MAX_ENTRIES
   pub fewer : j.publications ≤ length j.items.items
+  pub bytes : j.bytes ≡ byte_count j.items.items
+  pub bytes_within : j.bytes ≤ MAX_BYTES
   pub few : j.copies ≤ 2 ^ 32 * length j.items.items

@@ -2,12 +2,17 @@ pub mod Configuration
 pub mod Consumers
 pub mod Copies
 pub mod Counted
+pub mod Events
 pub mod Flight
 pub mod Holders
 pub mod Holds
 pub mod Links
+pub mod Messages
 pub mod Names
 pub mod Outgoing
 pub mod Phases
+pub mod Routes
+pub mod SiteLaws
+pub mod Sizes
 pub mod View
 pub mod Words

@@ -16,6 +16,13 @@ hex_digit n = if nat_lt n 10 then 48 + n else 55 + n
 abbrev pub percent_octet : ℕ → List ℕ
 percent_octet b = if is_plain b then b ∷ [] else 37 ∷ hex_digit (b / 16) ∷ hex_digit (b % 16) ∷ []
 
+abbrev pub low_digit : ℕ → ℕ
+low_digit n = if nat_lt n 10 then 48 + n else 87 + n
+
+-- an octet as two lower-case hexadecimal digits
+abbrev pub hex_octet : ℕ → List ℕ
+hex_octet b = low_digit (b / 16) ∷ low_digit (b % 16) ∷ []
+
 -- the empty text is `-`, and the text `-` is `%2D`
 abbrev pub word : List ℕ → List ℕ
 word [] = codes "-"

@@ -1,8 +1,9 @@
 //! What the journal records.
 use crate::event::Shovel;
-use crate::message::Message;
-use crate::place::{Client, Place, QueueOptions};
-use crate::text::{Names, Text};
+use crate::place::{Client, ExchangeShape, Place};
+use crate::text::Names;
+use amqp_props::{Message, QueueOptions, Text};
+use route_core::Binding;
 
 /// Who published a message.
 #[derive(Drop)]
@@ -41,6 +42,22 @@ pub enum Entry {
         place: Place,
         queue: Text,
         options: QueueOptions,
+    },
+    /// An exchange was declared.
+    MadeExchange {
+        place: Place,
+        exchange: Text,
+        shape: ExchangeShape,
+    },
+    /// A queue or an exchange was bound to an exchange.
+    Bound {
+        place: Place,
+        binding: Binding,
+    },
+    /// A binding was removed.
+    Unbound {
+        place: Place,
+        binding: Binding,
     },
     Published(Publication),
     /// The broker stored what it holds.

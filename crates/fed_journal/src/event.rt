@@ -1,7 +1,8 @@
 //! The single steps of a run.
 use crate::link::AckMode;
-use crate::place::Place;
-use crate::text::{Octets, Text};
+use crate::place::{ExchangeShape, Place};
+use amqp_props::{Message, QueueOptions, Text};
+use route_core::Binding;
 
 /// A shovel as its parameter sets it (RabbitMQ, dynamic shovels): the run names of the brokers that
 /// its URIs name, its queues and its mode.
@@ -17,19 +18,37 @@ pub struct Shovel {
 /// One action of one actor. A client's number is that of its connection, whose channel is 1.
 #[derive(Drop)]
 pub enum Event {
-    /// queue.declare of a durable queue by a client.
+    /// queue.declare by a client.
     DeclareQueue {
         place: Place,
         client: u16,
         queue: Text,
+        options: QueueOptions,
     },
-    /// basic.publish to the default exchange by a client.
+    /// exchange.declare by a client.
+    DeclareExchange {
+        place: Place,
+        client: u16,
+        exchange: Text,
+        shape: ExchangeShape,
+    },
+    /// queue.bind or exchange.bind by a client.
+    Bind {
+        place: Place,
+        client: u16,
+        binding: Binding,
+    },
+    /// queue.unbind or exchange.unbind by a client.
+    Unbind {
+        place: Place,
+        client: u16,
+        binding: Binding,
+    },
+    /// basic.publish by a client.
     Publish {
         place: Place,
         client: u16,
-        key: Text,
-        body: Octets,
-        persistent: bool,
+        message: Message,
     },
     /// basic.consume by a client. It may hold `prefetch` unacknowledged copies, any number where that is 0.
     Consume {

@@ -1,14 +1,19 @@
 //! The list of entries, with the numbers that the next publication and its copies get.
 ghost use Rattle.std.specs.Prelude.{◌≡◌, ◌+◌, ◌-◌, ◌*◌, ◌<◌, ◌≤◌, ◌^◌, [], ◌∷◌, ◌++◌, length, Ok, Err, IfOk, OnOk, OnErr, min, vec_capacity, vec_len};
 ghost use Rattle.fed_journal.specs.Copies.{publication_count, copy_count};
+ghost use Rattle.fed_journal.specs.Sizes.{byte_count, entry_bytes as bytes_of_entry, IsSized};
 
 use crate::entry::Entry;
+use crate::message::message_bytes;
 use std::alloc::{AllocError, Global};
 use std::marker::Model;
 use thiserror::Error;
 
 /// The most entries of a journal.
 pub const MAX_ENTRIES: usize = 2_000_000;
+
+/// The most octets of messages, summed over the publications of a journal.
+pub const MAX_BYTES: usize = 268_435_456;
 
 /// The numbers that the next publication and the next copy of the run get.
 #[derive(Clone, Copy)]
@@ -22,6 +27,8 @@ pub struct Numbers {
 pub enum JournalFault {
     #[error("over 2,000,000 entries")]
     Entries,
+    #[error("over 268,435,456 octets of messages")]
+    Bytes,
     #[error("memory")]
     Memory,
 }
@@ -32,12 +39,17 @@ pub struct Journal {
     items: Vec<Entry>,
     publications: u64,
     copies: u64,
+    bytes: usize,
 }
 
 impl Model for Journal {
     ghost use Rattle.fed_journal.specs.View.{View};
+    ghost use Rattle.fed_journal.specs.contracts.entry.Entry as entry;
+    ghost use Rattle.std.specs.Coded.{codes};
 
     ghost Value = { View };
+
+    ghost coded = { Prim.hlevel (codes, entry.the_row.coded) };
 
     ghost use Rattle.fed_journal.specs.Counted.{view_of, IsCounted};
 
@@ -48,7 +60,7 @@ impl Model for Journal {
 
 impl Journal {
     /// A journal without entries.
-    #[tactic(auto, unfolding(crate::specs::Copies::publication_count, crate::specs::Copies::copy_count))]
+    #[tactic(auto, unfolding(crate::specs::Copies::publication_count, crate::specs::Copies::copy_count, crate::specs::Sizes::byte_count))]
     pub fn new(alloc: Global) -> Self
         ensures { result.entries ≡ [] }
     {
@@ -56,6 +68,7 @@ impl Journal {
             items: Vec::new(alloc),
             publications: 0,
             copies: 0,
+            bytes: 0,
         }
     }
 
@@ -65,6 +78,7 @@ impl Journal {
         ensures within { length result.now ≤ MAX_ENTRIES }
         ensures copies { copy_count result.now ≤ 2 ^ 32 * length result.now }
         ensures publications { publication_count result.now ≤ length result.now }
+        ensures bytes { byte_count result.now ≤ MAX_BYTES }
     {
         self.items.as_slice()
     }
@@ -80,17 +94,24 @@ impl Journal {
         }
     }
 
-    /// Makes room for so many entries. Entries where the journal would pass `MAX_ENTRIES`.
-    pub fn reserve(&mut self, entries: usize) -> Result<(), JournalFault>
+    /// Makes room for so many entries with so many octets of messages. Entries where the journal would pass
+    /// `MAX_ENTRIES`, else Bytes where it would pass `MAX_BYTES`.
+    pub fn reserve(&mut self, entries: usize, bytes: usize) -> Result<(), JournalFault>
         ensures same { self.new.entries ≡ self.old.entries }
         ensures room { OnOk result (entries ≤ self.new.room) }
         ensures full { result ≡ Err JournalFault.Entries → MAX_ENTRIES < length self.old.entries + entries }
         ensures kept { self.old.room ≤ self.new.room }
         ensures within { OnOk result (length self.old.entries + entries ≤ MAX_ENTRIES) }
-        ensures memory { result ≡ Err JournalFault.Memory → length self.old.entries + entries ≤ MAX_ENTRIES }
+        ensures memory { result ≡ Err JournalFault.Memory → (length self.old.entries + entries ≤ MAX_ENTRIES) × (byte_count self.old.entries + bytes ≤ MAX_BYTES) }
+        ensures over { result ≡ Err JournalFault.Bytes → MAX_BYTES < byte_count self.old.entries + bytes }
+        ensures first { result ≡ Err JournalFault.Bytes → length self.old.entries + entries ≤ MAX_ENTRIES }
+        ensures under { OnOk result (byte_count self.old.entries + bytes ≤ MAX_BYTES) }
     {
         if entries > MAX_ENTRIES - self.items.len() {
             return Err(JournalFault::Entries);
+        }
+        if bytes > MAX_BYTES - self.bytes {
+            return Err(JournalFault::Bytes);
         }
         if self.items.reserve(entries).is_err() {
             return Err(JournalFault::Memory);
@@ -99,15 +120,18 @@ impl Journal {
     }
 
     /// Appends an entry. Takes no memory.
-    #[tactic(auto, unfolding(crate::specs::Copies::publication_count, crate::specs::Copies::copy_count))]
+    #[tactic(auto, unfolding(crate::specs::Copies::publication_count, crate::specs::Copies::copy_count, crate::specs::Sizes::byte_count))]
     pub fn push(&mut self, entry: Entry)
-        requires { 0 < self.old.room }
+        requires room { 0 < self.old.room }
+        requires sized { IsSized entry }
+        requires bytes { byte_count self.old.entries + bytes_of_entry entry ≤ MAX_BYTES }
         ensures appended { self.new.entries ≡ self.old.entries ++ entry ∷ [] }
         ensures room { self.old.room ≤ self.new.room + 1 }
     {
         if let Entry::Published(publication) = &entry {
             self.publications += 1;
             self.copies += publication.queues.count();
+            self.bytes += message_bytes(&publication.message);
         }
         match self.items.push(entry) {
             Ok(()) => {}

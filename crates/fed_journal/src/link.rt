@@ -1,6 +1,6 @@
 //! A link between two brokers, as its configuration describes it.
 use crate::place::Place;
-use crate::text::Text;
+use amqp_props::Text;
 
 /// When a link removes a copy from its source (RabbitMQ, shovels: `ack-mode`).
 #[derive(Clone, Copy)]

@@ -1,10 +1,10 @@
 //! A text that grows: names of links, and printed lines.
 ghost use Rattle.std.specs.Prelude.{◌≡◌, ◌<◌, [], ◌∷◌, ◌++◌, List, ℕ, OnOk, OnErr, IfOk, string_bytes, length, flat_map};
 ghost use Rattle.std.specs.Fmt.{decimal};
-ghost use Rattle.fed_journal.specs.Words.{word, place_word, percent_octet, hex_digit, is_plain, shovel_link_name};
+ghost use Rattle.fed_journal.specs.Words.{word, place_word, percent_octet, hex_digit, low_digit, hex_octet, is_plain, shovel_link_name};
 
 use crate::place::Place;
-use crate::text::Text;
+use amqp_props::Text;
 use std::alloc::{AllocError, Global};
 use std::marker::Model;
 
@@ -105,6 +105,24 @@ impl Page {
         Ok(())
     }
 
+    /// Appends an octet as two lower-case hexadecimal digits.
+    fn push_hex_octet(&mut self, octet: u8) -> Result<(), AllocError>
+        ensures { OnOk result (self.new ≡ self.old ++ hex_octet octet) }
+    {
+        self.push_ascii(low_digit(octet / 16))?;
+        self.push_ascii(low_digit(octet % 16))
+    }
+
+    /// Appends octets in lower-case hexadecimal.
+    pub fn push_hex(&mut self, octets: &[u8]) -> Result<(), AllocError>
+        ensures { OnOk result (self.new ≡ self.old ++ flat_map hex_octet octets.now) }
+    {
+        for octet in octets {
+            self.push_hex_octet(*octet)?;
+        }
+        Ok(())
+    }
+
     /// Appends a place: its broker for the virtual host `/`, else both.
     pub fn push_place(&mut self, place: &Place) -> Result<(), AllocError>
         ensures { OnOk result (self.new ≡ self.old ++ place_word place.now) }
@@ -135,6 +153,19 @@ fn hex_digit(digit: u8) -> u8
         b'0' + digit
     } else {
         b'A' - 10 + digit
+    }
+}
+
+/// A lower-case hexadecimal digit.
+fn low_digit(digit: u8) -> u8
+    requires { digit < 16 }
+    ensures value { result ≡ low_digit digit }
+    ensures ascii { result < 128 }
+{
+    if digit < 10 {
+        b'0' + digit
+    } else {
+        b'a' - 10 + digit
     }
 }
 

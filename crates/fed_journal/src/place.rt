@@ -1,5 +1,5 @@
 //! Where queues stand, and who is connected there.
-use crate::text::Text;
+use amqp_props::{ExchangeKind, Text};
 
 /// A broker, by its run name, and a virtual host of it.
 #[derive(Clone, Drop, PartialEq, Eq)]
@@ -8,12 +8,14 @@ pub struct Place {
     pub vhost: Text,
 }
 
-/// The options of a queue declaration (AMQP 0-9-1, queue.declare).
+/// What an exchange is declared as (AMQP 0-9-1, exchange.declare).
 #[derive(Clone, Copy, PartialEq, Eq)]
-pub struct QueueOptions {
+pub struct ExchangeShape {
+    pub kind: ExchangeKind,
+    /// It outlives a restart of its broker.
     pub durable: bool,
-    pub exclusive: bool,
-    pub auto_delete: bool,
+    /// Clients can't publish to it; only bindings lead there.
+    pub internal: bool,
 }
 
 /// A client of a place: a connection to it, and a channel of that connection (AMQP 0-9-1, 2.1.1).

@@ -1,2 +1,7 @@
+pub mod Arguments
+pub mod Lengths
 pub mod Pieces
+pub mod Spelled
 pub mod Utf8
+pub mod Views
+pub mod Writable

@@ -1,12 +1,13 @@
 -- The forms of lines, by their first word.
-use Rattle.std.specs.Prelude.{ℕ, List, Bool, true, false, ◌&&◌, ◌||◌, not, if◌then◌else◌, ◌==◌, nat_le, nat_lt, nat_eq, length, take, drop, Option, Some, None, codes}
-use Rattle.std.specs.List.{list_any, list_all, starts_with}
+use Rattle.std.specs.Prelude.{ℕ, ◌+◌, List, Bool, true, false, ◌&&◌, ◌||◌, not, if◌then◌else◌, ◌==◌, nat_le, nat_lt, length, take, drop, Option, Some, None, codes}
+use Rattle.std.specs.List.{list_any, list_all}
 use Rattle.fed_journal.specs.declared.event.Event.{Event}
 use Rattle.fed_journal.specs.declared.event.Event.TheVariants.{SetShovel}
 use Rattle.fed_journal.specs.declared.place.Place.{Place}
 use Rattle.fed_journal.specs.Names.{same_text, same_place}
 use Rattle.fed_schedule.specs.declared.keyword.Keyword.{Keyword}
-use Rattle.fed_schedule.specs.declared.keyword.Keyword.TheVariants.{Broker, Declare, Publish, Flush, Shovel, Client, Link, Show}
+use Rattle.fed_schedule.specs.declared.keyword.Keyword.TheVariants.{Broker, Declare, Binding, Publish, Flush, Shovel, Client, Link, Show}
+use Rattle.fed_schedule.specs.declared.keyword.BindingAction.TheVariants as binding
 use Rattle.fed_schedule.specs.declared.keyword.Settlement.TheVariants as settles
 use Rattle.fed_schedule.specs.declared.keyword.ClientAction.{ClientAction}
 use Rattle.fed_schedule.specs.declared.keyword.ClientAction.TheVariants as client
@@ -14,7 +15,8 @@ use Rattle.fed_schedule.specs.declared.keyword.LinkAction.{LinkAction}
 use Rattle.fed_schedule.specs.declared.keyword.LinkAction.TheVariants.{Open, Take, Send, Accept, Confirm, Note, Settle}
 use Rattle.fed_schedule.specs.Words.{word_at, is_text, text_of}
 use Rattle.fed_schedule.specs.Fields.{place_of}
-use Rattle.fed_schedule.specs.Options.{are_queue_options, is_alone}
+use Rattle.fed_schedule.specs.Times.{is_times, is_repeated}
+use Rattle.fed_schedule.specs.Options.{are_queue_options, are_built_queue_options}
 
 -- what a client does with copies (AMQP 0-9-1, the methods of class basic; queue.purge; connection.close)
 unfoldable pub client_action_of : List ℕ → Option ClientAction
@@ -54,33 +56,27 @@ unfoldable pub keyword_of : List ℕ → Option Keyword
 keyword_of w =
     if same_text w (codes "broker") then Some Broker else
     if same_text w (codes "declare") then Some Declare else
+    if same_text w (codes "bind") then Some (Binding binding.Bind) else
+    if same_text w (codes "unbind") then Some (Binding binding.Unbind) else
     if same_text w (codes "publish") then Some Publish else
     if same_text w (codes "flush") then Some Flush else
     if same_text w (codes "shovel") then Some Shovel else
     if same_text w (codes "show") then Some Show else action_keyword_of w
 
+-- all words but one are texts
+abbrev pub are_texts_but : ℕ → List (List ℕ) → Bool
+are_texts_but at ws = list_all is_text (take at ws) && list_all is_text (drop (at + 1) ws)
+
 -- all words but the body of a message are texts
 unfoldable pub are_texts : List (List ℕ) → Bool
 are_texts ws =
-    if same_text (word_at ws 0) (codes "publish") then list_all is_text (take 5 ws) && list_all is_text (drop 6 ws)
-    else list_all is_text ws
+    if same_text (word_at ws 0) (codes "publish") then are_texts_but 5 ws else
+    if is_times ws && same_text (word_at ws 2) (codes "publish") then are_texts_but 7 ws else list_all is_text ws
 
--- a declaration of an exchange, or of a queue that isn't just durable
+-- a declaration of a queue that is exclusive or goes with its last consumer
 unfoldable pub is_unbuilt_declare : List (List ℕ) → Bool
 is_unbuilt_declare ws =
-    same_text (word_at ws 3) (codes "exchange")
-    || (same_text (word_at ws 3) (codes "queue") && nat_le 5 (length ws) && are_queue_options (drop 5 ws) && not (is_alone (codes "durable") (drop 5 ws)))
-
--- an exchange that isn't the default one
-abbrev pub names_exchange : List ℕ → Bool
-names_exchange w = not (length w == 0) && not (same_text w (codes "-"))
-
-abbrev pub is_header : List ℕ → Bool
-is_header w = starts_with nat_eq w (codes "header=")
-
--- a publication to an exchange that has a name, or with header fields
-unfoldable pub is_unbuilt_publish : List (List ℕ) → Bool
-is_unbuilt_publish ws = names_exchange (word_at ws 3) || list_any is_header (drop 6 ws)
+    same_text (word_at ws 3) (codes "queue") && nat_le 5 (length ws) && are_queue_options (drop 5 ws) && not (are_built_queue_options (drop 5 ws))
 
 -- the event sets the shovel of this place and name
 abbrev pub sets_shovel : Place → List ℕ → Event → Bool
@@ -96,12 +92,11 @@ is_unbuilt_shovel es ws =
     same_text (word_at ws 7) (codes "on-publish") || same_text (word_at ws 7) (codes "no-ack")
     || list_any (line_sets_shovel (place_of (word_at ws 1)) (text_of (word_at ws 2))) es
 
--- a line whose form isn't built yet
-unfoldable pub is_unbuilt : List (ℕ × Event) → Keyword → List (List ℕ) → Bool
-is_unbuilt es Declare ws = is_unbuilt_declare ws
-is_unbuilt es Publish ws = is_unbuilt_publish ws
-is_unbuilt es Shovel ws = is_unbuilt_shovel es ws
-is_unbuilt es _ ws = false
+-- a line whose form isn't built yet, after what stands before it
+unfoldable pub is_unbuilt : List (ℕ × Event) → Keyword → List (List ℕ) → List (List ℕ) → Bool
+is_unbuilt es Declare head ws = is_unbuilt_declare ws
+is_unbuilt es Shovel head ws = is_repeated head || is_unbuilt_shovel es ws
+is_unbuilt es _ head ws = false
 
 -- the words of what a client does, without options
 abbrev pub client_word_count : ClientAction → ℕ
@@ -109,19 +104,25 @@ client_word_count client.Consume = 5
 client_word_count client.Close = 3
 client_word_count _ = 4
 
+-- the words of a declaration, without options: an exchange has a type
+abbrev pub declare_word_count : List (List ℕ) → ℕ
+declare_word_count ws = if same_text (word_at ws 3) (codes "exchange") then 6 else 5
+
 -- the words of a form, without its options
-abbrev pub word_count : Keyword → ℕ
-word_count Broker = 2
-word_count Declare = 5
-word_count Publish = 6
-word_count Flush = 2
-word_count Shovel = 8
-word_count Show = 1
-word_count (Client action) = client_word_count action
-word_count (Link _) = 2
+abbrev pub word_count : Keyword → List (List ℕ) → ℕ
+word_count Broker ws = 2
+word_count Declare ws = declare_word_count ws
+word_count (Binding _) ws = 7
+word_count Publish ws = 6
+word_count Flush ws = 2
+word_count Shovel ws = 8
+word_count Show ws = 1
+word_count (Client action) ws = client_word_count action
+word_count (Link _) ws = 2
 
 abbrev pub takes_options : Keyword → Bool
 takes_options Declare = true
+takes_options (Binding _) = true
 takes_options Publish = true
 takes_options (Client client.Consume) = true
 takes_options (Client client.Get) = true
@@ -133,4 +134,4 @@ is_empty_word w = length w == 0
 -- words are missing, too many, or empty
 unfoldable pub is_miscounted : Keyword → List (List ℕ) → Bool
 is_miscounted k ws =
-    list_any is_empty_word ws || nat_lt (length ws) (word_count k) || (not (takes_options k) && nat_lt (word_count k) (length ws))
+    list_any is_empty_word ws || nat_lt (length ws) (word_count k ws) || (not (takes_options k) && nat_lt (word_count k ws) (length ws))

@@ -1,5 +1,5 @@
--- Decimal numbers: of clients (AMQP 0-9-1, 4.9: a client is a connection, its channel is 1), of prefetch counts and of copies.
-use Rattle.std.specs.Prelude.{ℕ, ◌+◌, ◌*◌, ◌-◌, List, Bool, ◌&&◌, not, if◌then◌else◌, ◌==◌, nat_le, nat_lt, fold, length, min, slice_index, Option, Some, None}
+-- Decimal numbers: of clients (AMQP 0-9-1, 4.9: a client is a connection, its channel is 1), of prefetch counts, of copies and of field values.
+use Rattle.std.specs.Prelude.{ℕ, ◌+◌, ◌*◌, ◌-◌, ℤ, pos, neg_ℤ, List, Bool, ◌&&◌, not, if◌then◌else◌, ◌==◌, nat_le, nat_lt, fold, length, min, drop, slice_index, Option, Some, None, option_map}
 use Rattle.std.specs.List.{list_all}
 
 abbrev pub is_digit : ℕ → Bool
@@ -36,3 +36,26 @@ prefetch_count_of w = number_within 0 65535 w
 -- copies are numbered from 1 on, in 64 bits
 unfoldable pub copy_of : List ℕ → Option ℕ
 copy_of w = number_within 1 18446744073709551615 w
+
+abbrev pub begins_with_minus : List ℕ → Bool
+begins_with_minus w = not (length w == 0) && slice_index w 0 == 45
+
+abbrev pub minus : ℕ → ℤ
+minus n = neg_ℤ (pos n)
+
+-- the signed number that the word writes, if it is from -(most + 1) to most; `-` may stand before its digits, and `-0` is none
+unfoldable pub signed_within : ℕ → List ℕ → Option ℤ
+signed_within most w =
+    if begins_with_minus w then option_map minus (number_within 1 (most + 1) (drop 1 w)) else option_map pos (number_within 0 most w)
+
+-- a signed long: 32 bits (RabbitMQ's AMQP 0-9-1 Errata, "Field types": `I`)
+unfoldable pub long_of : List ℕ → Option ℤ
+long_of w = signed_within 2147483647 w
+
+-- a signed long-long: 64 bits (the same: `l`)
+unfoldable pub longlong_of : List ℕ → Option ℤ
+longlong_of w = signed_within 9223372036854775807 w
+
+-- how often a line is repeated: 1 to 10,000
+unfoldable pub repeat_count_of : List ℕ → Option ℕ
+repeat_count_of w = number_within 1 10000 w

@@ -1,7 +1,7 @@
 -- The options of a line, the words after those that its form needs.
 use Rattle.std.specs.Prelude.{ℕ, List, Bool, ◌&&◌, not, if◌then◌else◌, ◌==◌, nat_eq, length, drop, Option, None, is_some, codes}
 use Rattle.std.specs.Option.{unwrap_or}
-use Rattle.std.specs.List.{starts_with}
+use Rattle.std.specs.List.{list_any, starts_with}
 use Rattle.fed_journal.specs.Names.{same_text}
 use Rattle.fed_schedule.specs.Words.{word_at}
 use Rattle.fed_schedule.specs.Numbers.{prefetch_count_of}
@@ -13,6 +13,21 @@ without option ws = if same_text (word_at ws 0) option then drop 1 ws else ws
 -- nothing, or some of a queue's options in their order (AMQP 0-9-1, queue.declare)
 unfoldable pub are_queue_options : List (List ℕ) → Bool
 are_queue_options ws = length (without (codes "auto-delete") (without (codes "exclusive") (without (codes "durable") ws))) == 0
+
+-- of these, those that are built: nothing, or `durable`
+unfoldable pub are_built_queue_options : List (List ℕ) → Bool
+are_built_queue_options ws = length (without (codes "durable") ws) == 0
+
+-- nothing, or some of an exchange's options in their order (AMQP 0-9-1, exchange.declare)
+unfoldable pub are_exchange_options : List (List ℕ) → Bool
+are_exchange_options ws = length (without (codes "internal") (without (codes "durable") ws)) == 0
+
+abbrev pub is_option : List ℕ → List ℕ → Bool
+is_option option w = same_text w option
+
+-- the option is given
+unfoldable pub has_option : List ℕ → List (List ℕ) → Bool
+has_option option ws = list_any (is_option option) ws
 
 -- the one option
 abbrev pub is_alone : List ℕ → List (List ℕ) → Bool
@@ -40,3 +55,7 @@ are_consumer_options ws = length (without_prefetch (without (codes "no-ack") ws)
 -- the prefetch count of a consumer, 0 where its options give none
 unfoldable pub consumer_prefetch : List (List ℕ) → ℕ
 consumer_prefetch ws = unwrap_or (prefetch_of (word_at (without (codes "no-ack") ws) 0)) 0
+
+-- the words of a message's header fields: those after `persistent`, if it stands first
+unfoldable pub header_words : List (List ℕ) → List (List ℕ)
+header_words ws = without (codes "persistent") ws

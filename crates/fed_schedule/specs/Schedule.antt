@@ -1,7 +1,8 @@
 -- A schedule: the lines of a file, each read after those before it.
-use Rattle.std.specs.Prelude.{ℕ, ◌+◌, ◌-◌, List, [], ◌∷◌, ◌++◌, Bool, not, ◌&&◌, ◌||◌, if◌then◌else◌, ◌==◌, length, take, slice_index, Option, Some, None, Result, Ok, Err}
-use Rattle.std.specs.List.{list_all}
+use Rattle.std.specs.Prelude.{ℕ, ◌+◌, ◌-◌, List, [], ◌∷◌, ◌++◌, Bool, not, ◌&&◌, ◌||◌, if◌then◌else◌, ◌==◌, nat_lt, length, take, replicate, slice_index, Option, Some, None, Result, Ok, Err, All}
+use Rattle.std.specs.List.{list_any, list_all}
 use Rattle.fed_journal.specs.declared.event.Event.{Event}
+use Rattle.fed_journal.specs.Events.{IsWritable}
 use Rattle.fed_schedule.specs.declared.keyword.Keyword.{Keyword}
 use Rattle.fed_schedule.specs.declared.script.Script.{Script}
 use Rattle.fed_schedule.specs.declared.script.LineReason.{LineReason}
@@ -11,7 +12,8 @@ use Rattle.fed_schedule.specs.declared.script.ScheduleFault.TheVariants.{Line}
 use Rattle.fed_schedule.specs.declared.statement.Statement.{Statement}
 use Rattle.fed_schedule.specs.declared.statement.Statement.TheVariants as states
 use Rattle.fed_schedule.specs.Words.{pieces_of, words_of, word_at, is_well_escaped}
-use Rattle.fed_schedule.specs.Forms.{keyword_of, are_texts, is_unbuilt, is_miscounted}
+use Rattle.fed_schedule.specs.Times.{head_of, line_of, is_head, is_bad_head, count_of, is_single}
+use Rattle.fed_schedule.specs.Forms.{keyword_of, are_texts, is_unbuilt, is_empty_word, is_miscounted}
 use Rattle.fed_schedule.specs.Reasons.{is_late, has_bad_number, has_bad_names, is_twice, has_bad_option, has_bad_value}
 use Rattle.fed_schedule.specs.Statements.{statement_of}
 
@@ -23,6 +25,10 @@ pub record Reading : Type 0 where
 -- the script as lists
 abbrev pub reading_of : Script → Reading
 reading_of s = record { brokers = s.brokers.items; events = s.events.items }
+
+-- what each event carries has a spelling on the wire
+abbrev pub AreWritable : List (ℕ × Event) → Type 0
+AreWritable es = All (λ e. IsWritable e.1) es
 
 -- the lines end with line feeds, which the last may lack
 unfoldable pub lines_of : List ℕ → List (List ℕ)
@@ -36,14 +42,25 @@ without_return l = if not (length l == 0) && slice_index l (length l - 1) == 13 
 unfoldable pub is_passed_over : List ℕ → Bool
 is_passed_over l = length l == 0 || slice_index l 0 == 35
 
--- the first reason of those that are judged once the form is known
-unfoldable pub reason_of : Reading → Keyword → List (List ℕ) → Option LineReason
-reason_of r k ws =
-    if is_unbuilt r.events k ws then Some why.Word else
+-- each `%` of the line stands before two hexadecimal digits
+abbrev pub are_escaped : List (List ℕ) → List (List ℕ) → Bool
+are_escaped head ws = list_all is_well_escaped head && list_all is_well_escaped ws
+
+-- the first reason against a line that can't be repeated
+unfoldable pub single_reason : List (List ℕ) → List (List ℕ) → LineReason
+single_reason head ws =
+    if list_any is_empty_word head || list_any is_empty_word ws then why.Count else
+    if not (are_escaped head ws) then why.Escape else
+    if is_bad_head head then why.Number else why.Times
+
+-- the first reason of those that are judged once the form is known, of a line and what stands before it
+unfoldable pub reason_of : Reading → Keyword → List (List ℕ) → List (List ℕ) → Option LineReason
+reason_of r k head ws =
+    if is_unbuilt r.events k head ws then Some why.Word else
     if is_late (not (length r.events == 0)) k then Some why.Order else
-    if is_miscounted k ws then Some why.Count else
-    if not (list_all is_well_escaped ws) then Some why.Escape else
-    if has_bad_number k ws then Some why.Number else
+    if list_any is_empty_word head || is_miscounted k ws then Some why.Count else
+    if not (are_escaped head ws) then Some why.Escape else
+    if is_bad_head head || has_bad_number k ws then Some why.Number else
     if has_bad_names k ws then Some why.Name else
     if is_twice r.brokers k ws then Some why.Twice else
     if has_bad_option k ws then Some why.Option else
@@ -53,25 +70,45 @@ abbrev pub unless_refused : Option LineReason → Statement → Result Statement
 unless_refused None s = Ok s
 unless_refused (Some reason) s = Err reason
 
-abbrev pub of_form : Reading → List (List ℕ) → Option Keyword → Result Statement LineReason
-of_form r ws None = Err why.Word
-of_form r ws (Some k) = unless_refused (reason_of r k ws) (statement_of k ws)
+abbrev pub of_form : Reading → List (List ℕ) → List (List ℕ) → Option Keyword → Result Statement LineReason
+of_form r head ws None = Err why.Word
+of_form r head ws (Some k) = unless_refused (reason_of r k head ws) (statement_of k ws)
+
+-- what a line states, or the first reason that refuses it and what stands before it; `times` wants a line
+unfoldable pub of_line : Reading → List (List ℕ) → List (List ℕ) → Result Statement LineReason
+of_line r head ws =
+    if length ws == 0 then Err why.Count else
+    if is_head head && is_single (word_at ws 0) then Err (single_reason head ws) else of_form r head ws (keyword_of (word_at ws 0))
 
 -- what the words state after a part of a schedule, or the first reason that refuses them
 unfoldable pub judge : Reading → List (List ℕ) → Result Statement LineReason
-judge r ws = if not (are_texts ws) then Err why.Text else of_form r ws (keyword_of (word_at ws 0))
+judge r ws = if not (are_texts ws) then Err why.Text else of_line r (head_of ws) (line_of ws)
 
--- a part of a schedule, with one statement more
-abbrev pub with_statement : ℕ → Reading → Result Statement LineReason → Result Reading ScheduleFault
-with_statement n r (Ok (states.Broker name)) = Ok (record { brokers = r.brokers ++ name ∷ []; events = r.events })
-with_statement n r (Ok (states.Event event)) = Ok (record { brokers = r.brokers; events = r.events ++ (n, event) ∷ [] })
-with_statement n r (Err reason) = Err (Line n reason)
+-- the most events of a schedule
+abbrev pub max_events : ℕ
+max_events = 100000
+
+-- the events, and so many of one line more
+unfoldable pub with_events : ℕ → Reading → ℕ → Event → Result Reading ScheduleFault
+with_events n r count e =
+    if nat_lt max_events (length r.events + count) then Err (Line n why.Events)
+    else Ok (record { brokers = r.brokers; events = r.events ++ replicate count (n, e) })
+
+-- a part of a schedule, with one statement more, or so many of an event
+abbrev pub with_statement : ℕ → Reading → ℕ → Result Statement LineReason → Result Reading ScheduleFault
+with_statement n r count (Ok (states.Broker name)) = Ok (record { brokers = r.brokers ++ name ∷ []; events = r.events })
+with_statement n r count (Ok (states.Event event)) = with_events n r count event
+with_statement n r count (Err reason) = Err (Line n reason)
+
+-- the same of a line's words
+abbrev pub with_words : ℕ → Reading → List (List ℕ) → Result Reading ScheduleFault
+with_words n r ws = with_statement n r (count_of (head_of ws)) (judge r ws)
 
 -- a part of a schedule, with its line n more
 unfoldable pub with_line : ℕ → Reading → List ℕ → Result Reading ScheduleFault
 with_line n r l =
     if is_passed_over (without_return l) then Ok r
-    else with_statement n r (judge r (words_of (without_return l)))
+    else with_words n r (words_of (without_return l))
 
 -- the lines from line n on, after a part of a schedule: the first that is refused refuses all
 unfoldable pub with_lines : ℕ → Result Reading ScheduleFault → List (List ℕ) → Result Reading ScheduleFault

@@ -1,14 +1,22 @@
 -- What a line states, where its words are values of its form.
-use Rattle.std.specs.Prelude.{ℕ, List, ◌==◌, length, drop, not, codes}
+use Rattle.std.specs.Prelude.{ℕ, List, [], false, ◌==◌, length, drop, not, if◌then◌else◌, codes}
 use Rattle.fed_journal.specs.Names.{same_text}
 use Rattle.std.specs.Option.{unwrap_or}
 use Rattle.fed_journal.specs.declared.event.Event.{Event}
 use Rattle.fed_journal.specs.declared.event.Event.TheVariants as event
 use Rattle.fed_journal.specs.declared.event.Shovel.{Shovel}
+use Rattle.amqp_props.specs.declared.link.ExchangeKind.TheVariants.{Direct}
+use Rattle.amqp_props.specs.declared.link.QueueOptions.{QueueOptions}
+use Rattle.route_core.specs.declared.object.Sort.TheVariants as sorts
+use Rattle.route_core.specs.declared.binding.Binding.{Binding}
+use Rattle.route_core.specs.Bindings.{binding_of}
 use Rattle.fed_journal.specs.declared.place.Place.{Place}
+use Rattle.fed_journal.specs.declared.place.ExchangeShape.{ExchangeShape}
 use Rattle.fed_journal.specs.declared.link.AckMode.TheVariants.{OnConfirm}
 use Rattle.fed_schedule.specs.declared.keyword.Keyword.{Keyword}
 use Rattle.fed_schedule.specs.declared.keyword.Keyword.TheVariants as form
+use Rattle.fed_schedule.specs.declared.keyword.BindingAction.{BindingAction}
+use Rattle.fed_schedule.specs.declared.keyword.BindingAction.TheVariants as binding
 use Rattle.fed_schedule.specs.declared.keyword.Settlement.{Settlement}
 use Rattle.fed_schedule.specs.declared.keyword.Settlement.TheVariants.{Ack, Reject, Requeue}
 use Rattle.fed_schedule.specs.declared.keyword.ClientAction.{ClientAction}
@@ -17,11 +25,14 @@ use Rattle.fed_schedule.specs.declared.keyword.LinkAction.{LinkAction}
 use Rattle.fed_schedule.specs.declared.keyword.LinkAction.TheVariants.{Open, Take, Send, Accept, Confirm, Note, Settle}
 use Rattle.fed_schedule.specs.declared.statement.Statement.{Statement}
 use Rattle.fed_schedule.specs.declared.statement.Statement.TheVariants as states
-use Rattle.fed_schedule.specs.Words.{word_at, text_of, octets_of}
+use Rattle.fed_schedule.specs.Words.{word_at, text_of}
 use Rattle.fed_schedule.specs.Numbers.{client_of, copy_of}
 use Rattle.fed_schedule.specs.Fields.{place_of}
 use Rattle.fed_schedule.specs.Links.{link_name}
-use Rattle.fed_schedule.specs.Options.{consumer_prefetch}
+use Rattle.fed_schedule.specs.Choices.{exchange_kind_of, sort_of}
+use Rattle.fed_schedule.specs.Options.{consumer_prefetch, has_option}
+use Rattle.fed_schedule.specs.Values.{arguments_of}
+use Rattle.fed_schedule.specs.Messages.{message_of}
 
 abbrev pub link_event : LinkAction → List ℕ → Event
 link_event Open l = event.Open l
@@ -36,15 +47,39 @@ link_event Settle l = event.Settle l
 abbrev pub client_at : List (List ℕ) → ℕ
 client_at ws = unwrap_or (client_of (word_at ws 2)) 0
 
--- `declare P C queue NAME durable`
-unfoldable pub declare_event : List (List ℕ) → Event
-declare_event ws = event.DeclareQueue (place_of (word_at ws 1)) (client_at ws) (text_of (word_at ws 4))
+-- the options of a queue that is declared (AMQP 0-9-1, queue.declare); exclusive and auto-delete ones aren't built yet
+unfoldable pub queue_options_of : List (List ℕ) → QueueOptions
+queue_options_of options = record { durable = has_option (codes "durable") options; exclusive = false; auto_delete = false }
 
--- `publish P C EXCHANGE KEY BODY [persistent]`
+-- the type and the options of an exchange that is declared (AMQP 0-9-1, exchange.declare)
+unfoldable pub exchange_shape_of : List ℕ → List (List ℕ) → ExchangeShape
+exchange_shape_of type options = record {
+  kind = unwrap_or (exchange_kind_of type) Direct;
+  durable = has_option (codes "durable") options;
+  internal = has_option (codes "internal") options;
+}
+
+-- `declare P C queue NAME [durable]`, `declare P C exchange NAME KIND [durable] [internal]`
+unfoldable pub declare_event : List (List ℕ) → Event
+declare_event ws =
+    if same_text (word_at ws 3) (codes "exchange")
+    then event.DeclareExchange (place_of (word_at ws 1)) (client_at ws) (text_of (word_at ws 4)) (exchange_shape_of (word_at ws 5) (drop 6 ws))
+    else event.DeclareQueue (place_of (word_at ws 1)) (client_at ws) (text_of (word_at ws 4)) (queue_options_of (drop 5 ws))
+
+-- `P C queue|exchange DEST SOURCE KEY [NAME=VALUE]...` of a binding (AMQP 0-9-1, queue.bind; RabbitMQ, Exchange to Exchange Bindings)
+unfoldable pub binding_at : List (List ℕ) → Binding
+binding_at ws =
+    binding_of (text_of (word_at ws 5)) (unwrap_or (sort_of (word_at ws 3)) sorts.Queue) (text_of (word_at ws 4))
+    (text_of (word_at ws 6)) (arguments_of [] (drop 7 ws))
+
+-- `bind P C ..`, `unbind P C ..`
+unfoldable pub binding_event : BindingAction → List (List ℕ) → Event
+binding_event binding.Bind ws = event.Bind (place_of (word_at ws 1)) (client_at ws) (binding_at ws)
+binding_event binding.Unbind ws = event.Unbind (place_of (word_at ws 1)) (client_at ws) (binding_at ws)
+
+-- `publish P C ..`
 unfoldable pub publish_event : List (List ℕ) → Event
-publish_event ws =
-    event.Publish (place_of (word_at ws 1)) (client_at ws)
-    (text_of (word_at ws 4)) (octets_of (word_at ws 5)) (not (length ws == 6))
+publish_event ws = event.Publish (place_of (word_at ws 1)) (client_at ws) (message_of ws)
 
 -- `B1 QUEUE1 B2 QUEUE2` of a shovel's line
 unfoldable pub shovel_of : List (List ℕ) → Shovel
@@ -107,6 +142,7 @@ client_event client.Close ws = close_event ws
 unfoldable pub statement_of : Keyword → List (List ℕ) → Statement
 statement_of form.Broker ws = states.Broker (text_of (word_at ws 1))
 statement_of form.Declare ws = states.Event (declare_event ws)
+statement_of (form.Binding action) ws = states.Event (binding_event action ws)
 statement_of form.Publish ws = states.Event (publish_event ws)
 statement_of form.Flush ws = states.Event (event.Flush (text_of (word_at ws 1)))
 statement_of form.Shovel ws = states.Event (shovel_event ws)

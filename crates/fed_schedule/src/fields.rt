@@ -4,8 +4,8 @@ ghost use Rattle.std.specs.List.{list_all, position};
 ghost use Rattle.fed_schedule.specs.Fields.{begins_run_name, is_in_run_name, is_run_name, is_long, is_colon, place_of, is_bad_place};
 
 use crate::words::text_of;
+use amqp_props::Text;
 use fed_journal::place::Place;
-use fed_journal::text::Text;
 use std::alloc::{AllocError, Global};
 
 /// Whether a run name can begin with the octet.

@@ -1,16 +1,17 @@
 //! The forms of lines, by their first word.
-ghost use Rattle.std.specs.Prelude.{◌≡◌, IfOk};
-ghost use Rattle.std.specs.List.{list_any, list_all, starts_with};
+ghost use Rattle.std.specs.Prelude.{◌≡◌, ◌<◌, IfOk};
+ghost use Rattle.std.specs.List.{list_any, list_all};
 ghost use Rattle.fed_schedule.specs.Words.{is_text, word_at};
-ghost use Rattle.fed_schedule.specs.Forms.{client_action_of, link_action_of, action_keyword_of, keyword_of, are_texts, is_unbuilt_declare, names_exchange, is_header, is_unbuilt_publish, line_sets_shovel, is_unbuilt_shovel, is_unbuilt, client_word_count, word_count, takes_options, is_empty_word, is_miscounted};
+ghost use Rattle.fed_schedule.specs.Forms.{client_action_of, link_action_of, action_keyword_of, keyword_of, are_texts_but, are_texts, is_unbuilt_declare, line_sets_shovel, is_unbuilt_shovel, is_unbuilt, client_word_count, declare_word_count, word_count, takes_options, is_empty_word, is_miscounted};
 
 use crate::fields::place_of;
-use crate::keyword::{ClientAction, Keyword, LinkAction, Settlement};
-use crate::options::{are_queue_options, is_alone};
+use crate::keyword::{BindingAction, ClientAction, Keyword, LinkAction, Settlement};
+use crate::options::{are_built_queue_options, are_queue_options};
+use crate::times::{is_repeated, is_times};
 use crate::words::{is_text, is_word, text_of, word_at, words_before, words_from};
+use amqp_props::{Octets, Text};
 use fed_journal::event::Event;
 use fed_journal::place::Place;
-use fed_journal::text::{Octets, Text};
 use std::alloc::{AllocError, Global};
 
 /// What a client does by that word.
@@ -100,6 +101,12 @@ pub(crate) fn keyword_of(word: &[u8]) -> Option<Keyword>
     if is_word(word, "declare") {
         return Some(Keyword::Declare);
     }
+    if is_word(word, "bind") {
+        return Some(Keyword::Binding(BindingAction::Bind));
+    }
+    if is_word(word, "unbind") {
+        return Some(Keyword::Binding(BindingAction::Unbind));
+    }
     if is_word(word, "publish") {
         return Some(Keyword::Publish);
     }
@@ -126,52 +133,40 @@ fn all_texts(alloc: Global, words: &[Octets]) -> Result<bool, AllocError>
     Ok(true)
 }
 
+/// Whether all words but one are texts.
+fn are_texts_but(alloc: Global, at: usize, words: &[Octets]) -> Result<bool, AllocError>
+    requires { at < 8 }
+    ensures { IfOk result (λ texts. texts ≡ are_texts_but at words.now) }
+{
+    if !all_texts(alloc, words_before(words, at))? {
+        return Ok(false);
+    }
+    all_texts(alloc, words_from(words, at + 1))
+}
+
 /// Whether all words but the body of a message are texts.
 #[tactic(auto, unfolding(crate::specs::Forms::are_texts))]
 pub(crate) fn are_texts(alloc: Global, words: &[Octets]) -> Result<bool, AllocError>
     ensures { IfOk result (λ texts. texts ≡ are_texts words.now) }
 {
-    if !is_word(word_at(words, 0), "publish") {
-        return all_texts(alloc, words);
+    if is_word(word_at(words, 0), "publish") {
+        return are_texts_but(alloc, 5, words);
     }
-    if !all_texts(alloc, words_before(words, 5))? {
-        return Ok(false);
+    if is_times(words) && is_word(word_at(words, 2), "publish") {
+        return are_texts_but(alloc, 7, words);
     }
-    all_texts(alloc, words_from(words, 6))
+    all_texts(alloc, words)
 }
 
 #[tactic(auto, unfolding(crate::specs::Forms::is_unbuilt_declare))]
 fn is_unbuilt_declare(words: &[Octets]) -> bool
     ensures { result ≡ is_unbuilt_declare words.now }
 {
-    let kind = word_at(words, 3);
     let options = words_from(words, 5);
-    is_word(kind, "exchange")
-        || (is_word(kind, "queue")
-            && words.len() >= 5
-            && are_queue_options(options)
-            && !is_alone("durable", options))
-}
-
-fn names_exchange(word: &[u8]) -> bool
-    ensures { result ≡ names_exchange word.now }
-{
-    !word.is_empty() && !is_word(word, "-")
-}
-
-fn has_header(words: &[Octets]) -> bool
-    ensures { result ≡ list_any is_header words.now }
-{
-    words
-        .iter()
-        .any(|word| word.as_slice().starts_with(b"header="))
-}
-
-#[tactic(auto, unfolding(crate::specs::Forms::is_unbuilt_publish))]
-fn is_unbuilt_publish(words: &[Octets]) -> bool
-    ensures { result ≡ is_unbuilt_publish words.now }
-{
-    names_exchange(word_at(words, 3)) || has_header(words_from(words, 6))
+    is_word(word_at(words, 3), "queue")
+        && words.len() >= 5
+        && are_queue_options(options)
+        && !are_built_queue_options(options)
 }
 
 /// Whether one of the events sets this shovel.
@@ -200,20 +195,25 @@ fn is_unbuilt_shovel(
     Ok(is_shovel_set(events, &place, &name))
 }
 
-/// Whether the form of the line isn't built yet.
+/// Whether the form of the line isn't built yet, after what stands before it.
 #[tactic(auto, unfolding(crate::specs::Forms::is_unbuilt))]
 pub(crate) fn is_unbuilt(
     alloc: Global,
     events: &[(u32, Event)],
     keyword: Keyword,
+    head: &[Octets],
     words: &[Octets],
 ) -> Result<bool, AllocError>
-    ensures { IfOk result (λ unbuilt. unbuilt ≡ is_unbuilt events.now keyword words.now) }
+    ensures { IfOk result (λ unbuilt. unbuilt ≡ is_unbuilt events.now keyword head.now words.now) }
 {
     match keyword {
         Keyword::Declare => Ok(is_unbuilt_declare(words)),
-        Keyword::Publish => Ok(is_unbuilt_publish(words)),
-        Keyword::Shovel => is_unbuilt_shovel(alloc, events, words),
+        Keyword::Shovel => {
+            if is_repeated(head) {
+                return Ok(true);
+            }
+            is_unbuilt_shovel(alloc, events, words)
+        }
         _ => Ok(false),
     }
 }
@@ -229,13 +229,25 @@ fn client_word_count(action: ClientAction) -> usize
     }
 }
 
+/// The words of a declaration, without options.
+fn declare_word_count(words: &[Octets]) -> usize
+    ensures { result ≡ declare_word_count words.now }
+{
+    if is_word(word_at(words, 3), "exchange") {
+        6
+    } else {
+        5
+    }
+}
+
 /// The words of a form, without its options.
-fn word_count(keyword: Keyword) -> usize
-    ensures { result ≡ word_count keyword }
+fn word_count(keyword: Keyword, words: &[Octets]) -> usize
+    ensures { result ≡ word_count keyword words.now }
 {
     match keyword {
         Keyword::Broker | Keyword::Flush | Keyword::Link(_) => 2,
-        Keyword::Declare => 5,
+        Keyword::Declare => declare_word_count(words),
+        Keyword::Binding(_) => 7,
         Keyword::Publish => 6,
         Keyword::Shovel => 8,
         Keyword::Client(action) => client_word_count(action),
@@ -247,13 +259,13 @@ fn takes_options(keyword: Keyword) -> bool
     ensures { result ≡ takes_options keyword }
 {
     match keyword {
-        Keyword::Declare | Keyword::Publish => true,
+        Keyword::Declare | Keyword::Binding(_) | Keyword::Publish => true,
         Keyword::Client(ClientAction::Consume | ClientAction::Get) => true,
         _ => false,
     }
 }
 
-fn has_empty_word(words: &[Octets]) -> bool
+pub(crate) fn has_empty_word(words: &[Octets]) -> bool
     ensures { result ≡ list_any is_empty_word words.now }
 {
     words.iter().any(|word| word.as_slice().is_empty())
@@ -264,6 +276,6 @@ fn has_empty_word(words: &[Octets]) -> bool
 pub(crate) fn is_miscounted(keyword: Keyword, words: &[Octets]) -> bool
     ensures { result ≡ is_miscounted keyword words.now }
 {
-    let count = word_count(keyword);
+    let count = word_count(keyword, words);
     has_empty_word(words) || words.len() < count || (!takes_options(keyword) && count < words.len())
 }

@@ -20,6 +20,13 @@ pub enum ClientAction {
     Close,
 }
 
+/// Whether a client makes a binding or ends it.
+#[derive(Clone, Copy)]
+pub enum BindingAction {
+    Bind,
+    Unbind,
+}
+
 /// What a link does.
 #[derive(Clone, Copy)]
 pub enum LinkAction {
@@ -37,6 +44,7 @@ pub enum LinkAction {
 pub enum Keyword {
     Broker,
     Declare,
+    Binding(BindingAction),
     Publish,
     Flush,
     Shovel,

@@ -5,8 +5,8 @@ ghost use Rattle.fed_schedule.specs.Links.{parts_of, part_word, place_part_word,
 
 use crate::fields::{is_long, place_of};
 use crate::words::{split, text_of};
+use amqp_props::{Octets, Text};
 use fed_journal::page::Page;
-use fed_journal::text::{Octets, Text};
 use std::alloc::{AllocError, Global};
 
 /// The parts of a link's name.

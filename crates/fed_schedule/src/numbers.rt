@@ -1,7 +1,7 @@
-//! Decimal numbers: of clients, of prefetch counts and of copies.
-ghost use Rattle.std.specs.Prelude.{◌≡◌, ◌+◌, ◌≤◌, IfSome};
+//! Decimal numbers: of clients, of prefetch counts, of copies and of field values.
+ghost use Rattle.std.specs.Prelude.{◌≡◌, ◌+◌, ◌≤◌, ◌<◌, ◌^◌, ◌≤ℤ◌, pos, neg_ℤ, IfSome};
 ghost use Rattle.std.specs.List.{list_all};
-ghost use Rattle.fed_schedule.specs.Numbers.{is_digit, has_leading_zero, is_decimal, with_digit, number_up_to, number_within, client_of, prefetch_count_of, copy_of};
+ghost use Rattle.fed_schedule.specs.Numbers.{is_digit, has_leading_zero, is_decimal, with_digit, number_up_to, number_within, client_of, prefetch_count_of, copy_of, repeat_count_of, begins_with_minus, signed_within, long_of, longlong_of};
 
 fn is_digit(octet: u8) -> bool
     ensures { result ≡ is_digit octet }
@@ -95,4 +95,59 @@ pub(crate) fn copy_of(word: &[u8]) -> Option<u64>
     ensures { result ≡ copy_of word.now }
 {
     number_within(1, u64::MAX, word)
+}
+
+/// How often a line is repeated, 1 to 10,000.
+#[tactic(auto, unfolding(crate::specs::Numbers::repeat_count_of))]
+pub(crate) fn repeat_count_of(word: &[u8]) -> Option<u16>
+    ensures { result ≡ repeat_count_of word.now }
+{
+    match number_within(1, 10_000, word) {
+        Some(number) => Some(number as u16),
+        None => None,
+    }
+}
+
+fn begins_with_minus(word: &[u8]) -> bool
+    ensures { result ≡ begins_with_minus word.now }
+{
+    !word.is_empty() && word[0] == b'-'
+}
+
+/// The signed number that the word writes, if it is from `-(most + 1)` to `most`.
+#[tactic(auto, unfolding(crate::specs::Numbers::signed_within))]
+fn signed_within(most: u64, word: &[u8]) -> Option<i128>
+    requires { most < 2 ^ 63 }
+    ensures value { result ≡ signed_within most word.now }
+    ensures least { IfSome result (λ number. neg_ℤ (pos (most + 1)) ≤ℤ number) }
+    ensures most { IfSome result (λ number. number ≤ℤ pos most) }
+{
+    if begins_with_minus(word) {
+        let number = number_within(1, most + 1, &word[1..])?;
+        return Some(-i128::from(number));
+    }
+    let number = number_within(0, most, word)?;
+    Some(i128::from(number))
+}
+
+/// The signed number of 32 bits that the word writes.
+#[tactic(auto, unfolding(crate::specs::Numbers::long_of))]
+pub(crate) fn long_of(word: &[u8]) -> Option<i32>
+    ensures { result ≡ long_of word.now }
+{
+    match signed_within(2_147_483_647, word) {
+        Some(number) => Some(number as i32),
+        None => None,
+    }
+}
+
+/// The signed number of 64 bits that the word writes.
+#[tactic(auto, unfolding(crate::specs::Numbers::longlong_of))]
+pub(crate) fn longlong_of(word: &[u8]) -> Option<i64>
+    ensures { result ≡ longlong_of word.now }
+{
+    match signed_within(9_223_372_036_854_775_807, word) {
+        Some(number) => Some(number as i64),
+        None => None,
+    }
 }

@@ -1,10 +1,11 @@
 //! The options of a line, the words after those that its form needs.
 ghost use Rattle.std.specs.Prelude.{◌≡◌};
-ghost use Rattle.fed_schedule.specs.Options.{without, are_queue_options, is_alone, names_prefetch, prefetch_of, is_bad_prefetch, without_prefetch, are_consumer_options, consumer_prefetch};
+ghost use Rattle.std.specs.List.{list_any};
+ghost use Rattle.fed_schedule.specs.Options.{without, are_queue_options, are_built_queue_options, are_exchange_options, is_option, has_option, header_words, is_alone, names_prefetch, prefetch_of, is_bad_prefetch, without_prefetch, are_consumer_options, consumer_prefetch};
 
 use crate::numbers::prefetch_count_of;
 use crate::words::{is_word, word_at, words_from};
-use fed_journal::text::Octets;
+use amqp_props::Octets;
 
 /// The words after an option, if it stands first.
 #[tactic(auto, unfolding(crate::specs::Options::without))]
@@ -26,6 +27,39 @@ pub(crate) fn are_queue_options(words: &[Octets]) -> bool
     let rest = without("durable", words);
     let rest = without("exclusive", rest);
     without("auto-delete", rest).is_empty()
+}
+
+/// Whether these are options of queues that are built.
+#[tactic(auto, unfolding(crate::specs::Options::are_built_queue_options))]
+pub(crate) fn are_built_queue_options(words: &[Octets]) -> bool
+    ensures { result ≡ are_built_queue_options words.now }
+{
+    without("durable", words).is_empty()
+}
+
+/// Whether the words are none, or some of an exchange's options in their order.
+#[tactic(auto, unfolding(crate::specs::Options::are_exchange_options))]
+pub(crate) fn are_exchange_options(words: &[Octets]) -> bool
+    ensures { result ≡ are_exchange_options words.now }
+{
+    let rest = without("durable", words);
+    without("internal", rest).is_empty()
+}
+
+/// Whether the option is among the words.
+#[tactic(auto, unfolding(crate::specs::Options::has_option))]
+pub(crate) fn has_option(option: &str, words: &[Octets]) -> bool
+    ensures { result ≡ has_option option.now words.now }
+{
+    words.iter().any(|word| is_word(word.as_slice(), option))
+}
+
+/// The words of a message's header fields.
+#[tactic(auto, unfolding(crate::specs::Options::header_words))]
+pub(crate) fn header_words(words: &[Octets]) -> &[Octets]
+    ensures { result.now ≡ header_words words.now }
+{
+    without("persistent", words)
 }
 
 /// Whether the words are this option alone.

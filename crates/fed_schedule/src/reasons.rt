@@ -4,19 +4,32 @@ ghost use Rattle.std.specs.List.{list_any};
 ghost use Rattle.fed_journal.specs.Names.{same_text};
 ghost use Rattle.fed_schedule.specs.Fields.{place_of, is_bad_place};
 ghost use Rattle.fed_schedule.specs.Options.{is_bad_prefetch};
-ghost use Rattle.fed_schedule.specs.Reasons.{is_late, is_bad_client, is_bad_copy, has_bad_client_number, has_bad_number, is_bad_run_name, is_bad_name, has_bad_place_and_name, has_bad_end, has_bad_shovel_names, has_bad_consumer_names, has_bad_client_names, has_bad_names, is_twice, has_bad_client_option, has_bad_option, is_bad_queue, is_bad_body, has_bad_queues, has_bad_value};
+ghost use Rattle.fed_schedule.specs.Reasons.{is_late, is_bad_client, is_bad_copy, has_bad_client_number, has_bad_number, is_bad_run_name, is_bad_name, has_bad_place_and_name, has_bad_end, has_bad_shovel_names, has_bad_binding_names, has_bad_publish_names, has_bad_consumer_names, has_bad_client_names, has_bad_names, is_twice, has_bad_client_option, has_bad_declare_option, has_bad_option, is_bad_queue, is_bad_body, has_bad_queues, has_bad_arguments, has_bad_message, has_bad_value};
 
+use crate::choices::{exchange_kind_of, sort_of};
 use crate::fields::{is_bad_place, is_long, is_run_name, place_of};
 use crate::keyword::{ClientAction, Keyword};
 use crate::links::is_bad_link;
+use crate::messages::{HEADER_FRONT, header_len};
 use crate::numbers::{client_of, copy_of};
-use crate::options::{are_consumer_options, is_alone, is_bad_prefetch};
+use crate::options::{
+    are_built_queue_options, are_consumer_options, are_exchange_options, header_words, is_alone,
+    is_bad_prefetch,
+};
+use crate::values::{
+    MAX_HEADER, arguments_of, has_bad_argument_name, has_bad_argument_number,
+    has_bad_argument_value, has_no_argument,
+};
 use crate::words::{is_word, octets_of, text_of, word_at, words_from};
-use fed_journal::text::{Octets, Text, is_reserved};
+use amqp_props::{Octets, Text};
+use fed_journal::text::is_reserved;
 use std::alloc::{AllocError, Global};
 
 /// The most octets of a message's body.
 const MAX_BODY: usize = 16_777_216;
+
+/// The most octets of a binding's arguments, with the four of their number.
+const MAX_ARGUMENTS: usize = 32_768;
 
 /// Whether a broker's line stands after another line.
 pub(crate) fn is_late(begun: bool, keyword: Keyword) -> bool
@@ -64,7 +77,14 @@ pub(crate) fn has_bad_number(keyword: Keyword, words: &[Octets]) -> bool
     ensures { result ≡ has_bad_number keyword words.now }
 {
     match keyword {
-        Keyword::Declare | Keyword::Publish => is_bad_client(word_at(words, 2)),
+        Keyword::Declare => is_bad_client(word_at(words, 2)),
+        Keyword::Binding(_) => {
+            is_bad_client(word_at(words, 2)) || has_bad_argument_number("", words_from(words, 7))
+        }
+        Keyword::Publish => {
+            is_bad_client(word_at(words, 2))
+                || has_bad_argument_number(HEADER_FRONT, words_from(words, 6))
+        }
         Keyword::Client(action) => {
             is_bad_client(word_at(words, 2)) || has_bad_client_number(action, words)
         }
@@ -151,6 +171,37 @@ fn has_bad_client_names(
     }
 }
 
+/// Whether a binding's place, one of its ends, its routing key or an argument's name is none.
+#[tactic(auto, unfolding(crate::specs::Reasons::has_bad_binding_names))]
+fn has_bad_binding_names(alloc: Global, words: &[Octets]) -> Result<bool, AllocError>
+    ensures { IfOk result (λ bad. bad ≡ has_bad_binding_names words.now) }
+{
+    if has_bad_place_and_name(alloc, word_at(words, 1), word_at(words, 4))? {
+        return Ok(true);
+    }
+    if is_bad_name(alloc, word_at(words, 5))? {
+        return Ok(true);
+    }
+    if is_bad_name(alloc, word_at(words, 6))? {
+        return Ok(true);
+    }
+    has_bad_argument_name(alloc, "", words_from(words, 7))
+}
+
+/// Whether a message's place, its exchange, its routing key or a header field's name is none.
+#[tactic(auto, unfolding(crate::specs::Reasons::has_bad_publish_names))]
+fn has_bad_publish_names(alloc: Global, words: &[Octets]) -> Result<bool, AllocError>
+    ensures { IfOk result (λ bad. bad ≡ has_bad_publish_names words.now) }
+{
+    if has_bad_place_and_name(alloc, word_at(words, 1), word_at(words, 3))? {
+        return Ok(true);
+    }
+    if is_bad_name(alloc, word_at(words, 4))? {
+        return Ok(true);
+    }
+    has_bad_argument_name(alloc, HEADER_FRONT, words_from(words, 6))
+}
+
 /// Whether a name is too long, or no run name where it has to be one.
 #[tactic(auto, unfolding(crate::specs::Reasons::has_bad_names))]
 pub(crate) fn has_bad_names(
@@ -163,7 +214,8 @@ pub(crate) fn has_bad_names(
     match keyword {
         Keyword::Broker => is_bad_run_name(alloc, word_at(words, 1)),
         Keyword::Declare => has_bad_place_and_name(alloc, word_at(words, 1), word_at(words, 4)),
-        Keyword::Publish => has_bad_place_and_name(alloc, word_at(words, 1), word_at(words, 4)),
+        Keyword::Binding(_) => has_bad_binding_names(alloc, words),
+        Keyword::Publish => has_bad_publish_names(alloc, words),
         Keyword::Flush => is_bad_run_name(alloc, word_at(words, 1)),
         Keyword::Shovel => has_bad_shovel_names(alloc, words),
         Keyword::Show => Ok(false),
@@ -209,15 +261,29 @@ fn has_bad_client_option(action: ClientAction, words: &[Octets]) -> bool
     }
 }
 
-/// Whether a fixed word is none of its choices, or words are left over.
+/// Whether what is declared is no exchange of a type and no queue, or words are left over.
+#[tactic(auto, unfolding(crate::specs::Reasons::has_bad_declare_option))]
+fn has_bad_declare_option(words: &[Octets]) -> bool
+    ensures { result ≡ has_bad_declare_option words.now }
+{
+    if is_word(word_at(words, 3), "exchange") {
+        return exchange_kind_of(word_at(words, 5)).is_none()
+            || !are_exchange_options(words_from(words, 6));
+    }
+    !is_word(word_at(words, 3), "queue") || !are_built_queue_options(words_from(words, 5))
+}
+
+/// Whether a fixed word is none of its choices, words are left over, or an argument has no `=`.
 #[tactic(auto, unfolding(crate::specs::Reasons::has_bad_option))]
 pub(crate) fn has_bad_option(keyword: Keyword, words: &[Octets]) -> bool
     ensures { result ≡ has_bad_option keyword words.now }
 {
     match keyword {
-        Keyword::Declare => !is_word(word_at(words, 3), "queue")
-            || !is_alone("durable", words_from(words, 5)),
-        Keyword::Publish => words.len() != 6 && !is_alone("persistent", words_from(words, 6)),
+        Keyword::Declare => has_bad_declare_option(words),
+        Keyword::Binding(_) => {
+            sort_of(word_at(words, 3)).is_none() || has_no_argument("", words_from(words, 7))
+        }
+        Keyword::Publish => has_no_argument(HEADER_FRONT, header_words(words_from(words, 6))),
         Keyword::Shovel => !is_word(word_at(words, 7), "on-confirm"),
         Keyword::Client(action) => has_bad_client_option(action, words),
         _ => false,
@@ -249,6 +315,33 @@ fn has_bad_queues(alloc: Global, words: &[Octets]) -> Result<bool, AllocError>
     is_bad_queue(alloc, word_at(words, 6))
 }
 
+/// Whether an argument's value is none, or the argument table of a binding is too long.
+#[tactic(auto, unfolding(crate::specs::Reasons::has_bad_arguments))]
+fn has_bad_arguments(alloc: Global, words: &[Octets]) -> Result<bool, AllocError>
+    ensures { IfOk result (λ bad. bad ≡ has_bad_arguments words.now) }
+{
+    if has_bad_argument_value(alloc, "", words)? {
+        return Ok(true);
+    }
+    let arguments = arguments_of(alloc, "", words)?;
+    Ok(arguments.len > MAX_ARGUMENTS)
+}
+
+/// Whether the body or the content header of a message is too long, or a header field's value is none.
+#[tactic(auto, unfolding(crate::specs::Reasons::has_bad_message))]
+fn has_bad_message(alloc: Global, words: &[Octets]) -> Result<bool, AllocError>
+    ensures { IfOk result (λ bad. bad ≡ has_bad_message words.now) }
+{
+    if is_bad_body(alloc, word_at(words, 5))? {
+        return Ok(true);
+    }
+    if has_bad_argument_value(alloc, HEADER_FRONT, header_words(words_from(words, 6)))? {
+        return Ok(true);
+    }
+    let len = header_len(alloc, words)?;
+    Ok(len > MAX_HEADER)
+}
+
 /// Whether a value isn't one that its place takes.
 #[tactic(auto, unfolding(crate::specs::Reasons::has_bad_value))]
 pub(crate) fn has_bad_value(
@@ -259,7 +352,8 @@ pub(crate) fn has_bad_value(
     ensures { IfOk result (λ bad. bad ≡ has_bad_value keyword words.now) }
 {
     match keyword {
-        Keyword::Publish => is_bad_body(alloc, word_at(words, 5)),
+        Keyword::Binding(_) => has_bad_arguments(alloc, words_from(words, 7)),
+        Keyword::Publish => has_bad_message(alloc, words),
         Keyword::Shovel => has_bad_queues(alloc, words),
         _ => Ok(false),
     }

@@ -1,18 +1,22 @@
 //! The reader of schedules.
 ghost use Rattle.std.specs.Prelude.{◌≡◌, ◌≢◌, ◌+◌, ◌≤◌, ◌<◌, ◌^◌, Ok, Err, Some, None, IfOk, IfErr, OnOk, OnErr, length, not};
 ghost use Rattle.std.specs.List.{list_all};
+ghost use Rattle.fed_journal.specs.Events.{IsWritable};
 ghost use Rattle.fed_schedule.specs.Words.{is_well_escaped, words_of};
-ghost use Rattle.fed_schedule.specs.Schedule.{reading_of, lines_of, without_return, is_passed_over, reason_of, judge, with_line, script_of, reading};
+ghost use Rattle.fed_schedule.specs.Schedule.{reading_of, AreWritable, lines_of, without_return, is_passed_over, are_escaped, single_reason, reason_of, of_line, judge, with_events, with_line, script_of, reading};
 
-use crate::forms::{are_texts, is_miscounted, is_unbuilt, keyword_of};
+use crate::copies::push_copies;
+use crate::forms::{are_texts, has_empty_word, is_miscounted, is_unbuilt, keyword_of};
 use crate::keyword::Keyword;
 use crate::reasons::{
     has_bad_names, has_bad_number, has_bad_option, has_bad_value, is_late, is_twice,
 };
-use crate::script::{LineReason, MAX_SCHEDULE, ScheduleFault, Script};
+use crate::script::{LineReason, MAX_EVENTS, MAX_SCHEDULE, ScheduleFault, Script};
 use crate::statement::{Statement, statement_of};
+use crate::times::{count_of, head_of, is_bad_head, is_single, line_of};
 use crate::words::{is_well_escaped, split, word_at, words_of};
-use fed_journal::text::Octets;
+use amqp_props::Octets;
+use fed_journal::event::Event;
 use std::alloc::{AllocError, Global};
 
 /// The lines of a file.
@@ -49,29 +53,53 @@ fn are_well_escaped(words: &[Octets]) -> bool
     words.iter().all(|word| is_well_escaped(word.as_slice()))
 }
 
+fn are_escaped(head: &[Octets], words: &[Octets]) -> bool
+    ensures { result ≡ are_escaped head.now words.now }
+{
+    are_well_escaped(head) && are_well_escaped(words)
+}
+
+/// Why a line that can't be repeated is refused.
+#[tactic(auto, unfolding(crate::specs::Schedule::single_reason))]
+fn single_reason(head: &[Octets], words: &[Octets]) -> LineReason
+    ensures { result ≡ single_reason head.now words.now }
+{
+    if has_empty_word(head) || has_empty_word(words) {
+        return LineReason::Count;
+    }
+    if !are_escaped(head, words) {
+        return LineReason::Escape;
+    }
+    if is_bad_head(head) {
+        return LineReason::Number;
+    }
+    LineReason::Times
+}
+
 /// Why the words of a form are refused after a part of a schedule.
 #[tactic(auto, unfolding(crate::specs::Schedule::reason_of))]
 fn reason_of(
     alloc: Global,
     script: &Script,
     keyword: Keyword,
+    head: &[Octets],
     words: &[Octets],
 ) -> Result<Option<LineReason>, AllocError>
-    ensures { IfOk result (λ reason. reason ≡ reason_of (reading_of script.now) keyword words.now) }
+    ensures { IfOk result (λ reason. reason ≡ reason_of (reading_of script.now) keyword head.now words.now) }
 {
-    if is_unbuilt(alloc, script.events.as_slice(), keyword, words)? {
+    if is_unbuilt(alloc, script.events.as_slice(), keyword, head, words)? {
         return Ok(Some(LineReason::Word));
     }
     if is_late(!script.events.is_empty(), keyword) {
         return Ok(Some(LineReason::Order));
     }
-    if is_miscounted(keyword, words) {
+    if has_empty_word(head) || is_miscounted(keyword, words) {
         return Ok(Some(LineReason::Count));
     }
-    if !are_well_escaped(words) {
+    if !are_escaped(head, words) {
         return Ok(Some(LineReason::Escape));
     }
-    if has_bad_number(keyword, words) {
+    if is_bad_head(head) || has_bad_number(keyword, words) {
         return Ok(Some(LineReason::Number));
     }
     if has_bad_names(alloc, keyword, words)? {
@@ -89,6 +117,31 @@ fn reason_of(
     Ok(None)
 }
 
+/// What a line states after a part of a schedule, or why it is refused with what stands before it.
+#[tactic(auto, unfolding(crate::specs::Schedule::of_line))]
+fn of_line(
+    alloc: Global,
+    script: &Script,
+    head: &[Octets],
+    words: &[Octets],
+) -> Result<Result<Statement, LineReason>, AllocError>
+    ensures { IfOk result (λ judged. judged ≡ of_line (reading_of script.now) head.now words.now) }
+{
+    if words.is_empty() {
+        return Ok(Err(LineReason::Count));
+    }
+    if !head.is_empty() && is_single(word_at(words, 0)) {
+        return Ok(Err(single_reason(head, words)));
+    }
+    let Some(keyword) = keyword_of(word_at(words, 0)) else {
+        return Ok(Err(LineReason::Word));
+    };
+    match reason_of(alloc, script, keyword, head, words)? {
+        Some(reason) => Ok(Err(reason)),
+        None => Ok(Ok(statement_of(alloc, keyword, words)?)),
+    }
+}
+
 /// What the words state after a part of a schedule, or why they are refused.
 #[tactic(auto, unfolding(crate::specs::Schedule::judge))]
 fn judge(
@@ -101,24 +154,46 @@ fn judge(
     if !are_texts(alloc, words)? {
         return Ok(Err(LineReason::Text));
     }
-    let Some(keyword) = keyword_of(word_at(words, 0)) else {
-        return Ok(Err(LineReason::Word));
-    };
-    match reason_of(alloc, script, keyword, words)? {
-        Some(reason) => Ok(Err(reason)),
-        None => Ok(Ok(statement_of(alloc, keyword, words)?)),
+    of_line(alloc, script, head_of(words), line_of(words))
+}
+
+/// Adds an event of a line, so many times.
+#[tactic(auto, unfolding(crate::specs::Schedule::with_events), using(crate::proofs::Writable::copies_writable))]
+fn push_events(
+    script: &mut Script,
+    number: u32,
+    count: u16,
+    event: &Event,
+) -> Result<(), ScheduleFault>
+    requires writable { IsWritable event.now }
+    requires written { AreWritable script.old.events.items }
+    ensures ok { OnOk result (with_events number (reading_of script.old) count event.now ≡ Ok (reading_of script.new)) }
+    ensures err { IfErr result (λ fault. fault ≢ ScheduleFault.Memory → with_events number (reading_of script.old) count event.now ≡ Err fault) }
+    ensures writable { OnOk result (AreWritable script.new.events.items) }
+{
+    if script.events.len() + usize::from(count) > MAX_EVENTS {
+        return Err(ScheduleFault::Line {
+            line: number,
+            reason: LineReason::Events,
+        });
     }
+    if push_copies(&mut script.events, number, count, event).is_err() {
+        return Err(ScheduleFault::Memory);
+    }
+    Ok(())
 }
 
 /// Adds a line to a part of a schedule.
-#[tactic(auto, unfolding(crate::specs::Schedule::with_line))]
+#[tactic(auto, unfolding(crate::specs::Schedule::with_line), using(crate::proofs::Writable::judge_event))]
 fn read_line(
     alloc: Global,
     script: &mut Script,
     number: u32,
     line: &[u8],
 ) -> Result<(), ScheduleFault>
+    requires { AreWritable script.old.events.items }
     ensures ok { OnOk result (with_line number (reading_of script.old) line.now ≡ Ok (reading_of script.new)) }
+    ensures writable { OnOk result (AreWritable script.new.events.items) }
     ensures err { IfErr result (λ fault. fault ≢ ScheduleFault.Memory → with_line number (reading_of script.old) line.now ≡ Err fault) }
 {
     let line = without_return(line);
@@ -126,12 +201,14 @@ fn read_line(
         return Ok(());
     }
     let words = words_of(alloc, line).map_err(|_| ScheduleFault::Memory)?;
+    let count = count_of(head_of(words.as_slice()));
     match judge(alloc, script, words.as_slice()).map_err(|_| ScheduleFault::Memory)? {
         Ok(Statement::Broker(name)) => script.brokers.push(name).map_err(|_| ScheduleFault::Memory),
-        Ok(Statement::Event(event)) => script
-            .events
-            .push((number, event))
-            .map_err(|_| ScheduleFault::Memory),
+        Ok(Statement::Event(event)) => {
+            let pushed = push_events(script, number, count, &event);
+            drop(event);
+            pushed
+        }
         Err(reason) => Err(ScheduleFault::Line {
             line: number,
             reason,
@@ -144,6 +221,7 @@ fn read_line(
 fn read_lines(alloc: Global, lines: &[Octets]) -> Result<Script, ScheduleFault>
     requires { length lines.now ≤ MAX_SCHEDULE + 1 }
     ensures ok { IfOk result (λ script. script_of lines.now ≡ Ok (reading_of script)) }
+    ensures writable { IfOk result (λ script. AreWritable script.events.items) }
     ensures err { IfErr result (λ fault. fault ≢ ScheduleFault.Memory → script_of lines.now ≡ Err fault) }
 {
     let mut script = Script {
@@ -165,6 +243,7 @@ fn read_lines(alloc: Global, lines: &[Octets]) -> Result<Script, ScheduleFault>
 pub fn read(alloc: Global, bytes: &[u8]) -> Result<Script, ScheduleFault>
     requires { length bytes.now ≤ MAX_SCHEDULE }
     ensures ok { IfOk result (λ script. reading bytes.now ≡ Ok (reading_of script)) }
+    ensures writable { IfOk result (λ script. AreWritable script.events.items) }
     ensures err { IfErr result (λ fault. fault ≢ ScheduleFault.Memory → reading bytes.now ≡ Err fault) }
 {
     let lines = lines_of(alloc, bytes).map_err(|_| ScheduleFault::Memory)?;
@@ -174,7 +253,10 @@ pub fn read(alloc: Global, bytes: &[u8]) -> Result<Script, ScheduleFault>
 #[cfg(test)]
 mod tests {
     use super::*;
-    use fed_journal::event::Event;
+    use amqp_props::ExchangeKind;
+    use fed_journal::place::ExchangeShape;
+    use field_tables::FieldValue;
+    use route_core::Sort;
     use std::test::Fail;
 
     #[test]
@@ -216,6 +298,70 @@ mod tests {
             matches!(&script.events[7].1, Event::Purge { queue, .. } if queue.as_str() == "q")
         );
         assert!(rt; matches!(&script.events[8].1, Event::Close { client: 9, .. }));
+        Ok(())
+    }
+
+    #[test]
+    fn reads_exchanges_and_bindings(rt: HostRuntime) -> Result<(), Fail> {
+        let lines =
+            b"declare a 1 exchange x topic internal\nbind a 1 queue q x k n=I:-5 m=raw:53000000026869\nunbind a 1 exchange y x -";
+        let script = read(rt.alloc(), lines)?;
+        assert_eq!(rt; script.events.len(), 3);
+        assert!(rt;
+            matches!(
+                &script.events[0].1,
+                Event::DeclareExchange {
+                    shape: ExchangeShape {
+                        kind: ExchangeKind::Topic,
+                        durable: false,
+                        internal: true
+                    },
+                    ..
+                }
+            )
+        );
+        assert!(rt;
+            matches!(&script.events[1].1, Event::Bind { binding, .. }
+            if binding.source.as_str() == "x" && binding.dest.as_str() == "q"
+                && matches!(binding.args.as_table().get("n"), Some(FieldValue::I32(-5)))
+                && matches!(binding.args.as_table().get("m"), Some(FieldValue::Text(text)) if text.as_slice() == b"hi".as_slice()))
+        );
+        assert!(rt;
+            matches!(&script.events[2].1, Event::Unbind { binding, .. }
+            if matches!(binding.sort, Sort::Exchange) && binding.key.as_str() == "")
+        );
+        Ok(())
+    }
+
+    #[test]
+    fn reads_messages(rt: HostRuntime) -> Result<(), Fail> {
+        let lines =
+            b"publish a 1 - q %ff\npublish a 1 x k - persistent header=h=t:1 header=%3d=S:a%20b";
+        let script = read(rt.alloc(), lines)?;
+        assert_eq!(rt; script.events.len(), 2);
+        assert!(rt;
+            matches!(&script.events[0].1, Event::Publish { message, .. }
+            if message.exchange.as_str() == "" && message.body.as_slice() == b"\xff".as_slice()
+                && message.props.headers.is_none() && message.props.delivery_mode.is_none())
+        );
+        assert!(rt;
+            matches!(&script.events[1].1, Event::Publish { message, .. }
+            if message.props.delivery_mode == Some(2)
+                && matches!(&message.props.headers, Some(headers)
+                    if matches!(headers.as_table().get("h"), Some(FieldValue::Bool(true)))
+                        && matches!(headers.as_table().get("="), Some(FieldValue::Text(text)) if text.as_slice() == b"a b".as_slice())))
+        );
+        Ok(())
+    }
+
+    #[test]
+    fn repeats_a_line(rt: HostRuntime) -> Result<(), Fail> {
+        let script = read(rt.alloc(), b"broker a\ntimes 3 publish a 1 - q %ff\nshow")?;
+        assert_eq!(rt; script.events.len(), 4);
+        let (line, event) = &script.events[2];
+        assert_eq!(rt; *line, 2);
+        assert!(rt; matches!(event, Event::Publish { client: 1, .. }));
+        assert!(rt; matches!(&script.events[3], (3, Event::Show)));
         Ok(())
     }
 

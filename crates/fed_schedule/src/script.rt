@@ -1,10 +1,13 @@
 //! What a schedule says, and why a line says nothing.
+use amqp_props::Text;
 use fed_journal::event::Event;
-use fed_journal::text::Text;
 use thiserror::Error;
 
 /// The most octets of a schedule.
 pub const MAX_SCHEDULE: usize = 67_108_864;
+
+/// The most events of a schedule.
+pub const MAX_EVENTS: usize = 100_000;
 
 /// The brokers of a run, by their run names, and its events in order, each with the number of its
 /// line, from 1.
@@ -47,6 +50,12 @@ pub enum LineReason {
     /// A value isn't one that its place takes.
     #[error("value")]
     Value,
+    /// The line that is to be repeated can't be.
+    #[error("times")]
+    Times,
+    /// The line holds or repeats the event after the first `MAX_EVENTS`. It is well formed: the schedule is too long.
+    #[error("events")]
+    Events,
 }
 
 /// Why there is no script.

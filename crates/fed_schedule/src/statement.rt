@@ -1,17 +1,21 @@
 //! What a line states.
 ghost use Rattle.std.specs.Prelude.{◌≡◌, IfOk};
-ghost use Rattle.fed_schedule.specs.Statements.{link_event, client_at, declare_event, publish_event, shovel_of, shovel_event, consume_event, cancel_event, deliver_event, get_event, settlement_event, settle_event, purge_event, close_event, client_event, statement_of};
+ghost use Rattle.fed_schedule.specs.Statements.{link_event, client_at, queue_options_of, exchange_shape_of, declare_event, binding_at, binding_event, publish_event, shovel_of, shovel_event, consume_event, cancel_event, deliver_event, get_event, settlement_event, settle_event, purge_event, close_event, client_event, statement_of};
 
+use crate::choices::{exchange_kind_of, sort_of};
 use crate::fields::place_of;
-use crate::keyword::{ClientAction, Keyword, LinkAction, Settlement};
+use crate::keyword::{BindingAction, ClientAction, Keyword, LinkAction, Settlement};
 use crate::links::link_name;
+use crate::messages::message_of;
 use crate::numbers::{client_of, copy_of};
-use crate::options::consumer_prefetch;
-use crate::words::{is_word, octets_of, text_of, word_at, words_from};
+use crate::options::{consumer_prefetch, has_option};
+use crate::values::arguments_of;
+use crate::words::{is_word, text_of, word_at, words_from};
+use amqp_props::{ExchangeKind, Octets, QueueOptions, Text};
 use fed_journal::event::{Event, Shovel};
 use fed_journal::link::AckMode;
-use fed_journal::place::Place;
-use fed_journal::text::{Octets, Text};
+use fed_journal::place::{ExchangeShape, Place};
+use route_core::{Binding, Sort};
 use std::alloc::{AllocError, Global};
 
 /// What a line states: a broker of the run, or an event.
@@ -21,7 +25,7 @@ pub enum Statement {
     Event(Event),
 }
 
-fn link_event(action: LinkAction, link: Text) -> Event
+pub(crate) fn link_event(action: LinkAction, link: Text) -> Event
     ensures { result ≡ link_event action link }
 {
     match action {
@@ -42,18 +46,94 @@ fn client_at(words: &[Octets]) -> u16
     client_of(word_at(words, 2)).unwrap_or(0)
 }
 
+/// The options of a queue that is declared.
+#[tactic(auto, unfolding(crate::specs::Statements::queue_options_of))]
+fn queue_options_of(options: &[Octets]) -> QueueOptions
+    ensures { result ≡ queue_options_of options.now }
+{
+    QueueOptions {
+        durable: has_option("durable", options),
+        exclusive: false,
+        auto_delete: false,
+    }
+}
+
+/// The type and the options of an exchange that is declared.
+#[tactic(auto, unfolding(crate::specs::Statements::exchange_shape_of))]
+fn exchange_shape_of(kind: &[u8], options: &[Octets]) -> ExchangeShape
+    ensures { result ≡ exchange_shape_of kind.now options.now }
+{
+    ExchangeShape {
+        kind: exchange_kind_of(kind).unwrap_or(ExchangeKind::Direct),
+        durable: has_option("durable", options),
+        internal: has_option("internal", options),
+    }
+}
+
 #[tactic(auto, unfolding(crate::specs::Statements::declare_event))]
 fn declare_event(alloc: Global, words: &[Octets]) -> Result<Event, AllocError>
     ensures { IfOk result (λ event. event ≡ declare_event words.now) }
 {
     let place = place_of(alloc, word_at(words, 1))?;
     let client = client_at(words);
-    let queue = text_of(alloc, word_at(words, 4))?;
+    let name = text_of(alloc, word_at(words, 4))?;
+    if is_word(word_at(words, 3), "exchange") {
+        return Ok(Event::DeclareExchange {
+            place,
+            client,
+            exchange: name,
+            shape: exchange_shape_of(word_at(words, 5), words_from(words, 6)),
+        });
+    }
     Ok(Event::DeclareQueue {
         place,
         client,
-        queue,
+        queue: name,
+        options: queue_options_of(words_from(words, 5)),
     })
+}
+
+/// The binding that a line makes or ends.
+#[tactic(auto, unfolding(crate::specs::Statements::binding_at))]
+fn binding_at(alloc: Global, words: &[Octets]) -> Result<Binding, AllocError>
+    ensures { IfOk result (λ binding. binding ≡ binding_at words.now) }
+{
+    let dest = text_of(alloc, word_at(words, 4))?;
+    let source = text_of(alloc, word_at(words, 5))?;
+    let key = text_of(alloc, word_at(words, 6))?;
+    let arguments = arguments_of(alloc, "", words_from(words, 7))?;
+    Ok(Binding {
+        source,
+        sort: sort_of(word_at(words, 3)).unwrap_or(Sort::Queue),
+        dest,
+        key,
+        args: arguments.table,
+    })
+}
+
+#[tactic(auto, unfolding(crate::specs::Statements::binding_event))]
+fn binding_event(
+    alloc: Global,
+    action: BindingAction,
+    words: &[Octets],
+) -> Result<Event, AllocError>
+    ensures { IfOk result (λ event. event ≡ binding_event action words.now) }
+{
+    let place = place_of(alloc, word_at(words, 1))?;
+    let client = client_at(words);
+    let binding = binding_at(alloc, words)?;
+    match action {
+        BindingAction::Bind => Ok(Event::Bind {
+            place,
+            client,
+            binding,
+        }),
+        BindingAction::Unbind => Ok(Event::Unbind {
+            place,
+            client,
+            binding,
+        }),
+    }
 }
 
 #[tactic(auto, unfolding(crate::specs::Statements::publish_event))]
@@ -62,14 +142,11 @@ fn publish_event(alloc: Global, words: &[Octets]) -> Result<Event, AllocError>
 {
     let place = place_of(alloc, word_at(words, 1))?;
     let client = client_at(words);
-    let key = text_of(alloc, word_at(words, 4))?;
-    let body = octets_of(alloc, word_at(words, 5))?;
+    let message = message_of(alloc, words)?;
     Ok(Event::Publish {
         place,
         client,
-        key,
-        body,
-        persistent: words.len() != 6,
+        message,
     })
 }
 
@@ -157,7 +234,12 @@ fn get_event(alloc: Global, words: &[Octets]) -> Result<Event, AllocError>
     })
 }
 
-fn settlement_event(settlement: Settlement, place: Place, client: u16, copy: u64) -> Event
+pub(crate) fn settlement_event(
+    settlement: Settlement,
+    place: Place,
+    client: u16,
+    copy: u64,
+) -> Event
     ensures { result ≡ settlement_event settlement place client copy }
 {
     match settlement {
@@ -244,6 +326,7 @@ pub(crate) fn statement_of(
     match keyword {
         Keyword::Broker => Ok(Statement::Broker(text_of(alloc, word_at(words, 1))?)),
         Keyword::Declare => Ok(Statement::Event(declare_event(alloc, words)?)),
+        Keyword::Binding(action) => Ok(Statement::Event(binding_event(alloc, action, words)?)),
         Keyword::Publish => Ok(Statement::Event(publish_event(alloc, words)?)),
         Keyword::Flush => {
             let broker = text_of(alloc, word_at(words, 1))?;

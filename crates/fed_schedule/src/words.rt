@@ -1,10 +1,10 @@
 //! The words of a line, and what they stand for.
-ghost use Rattle.std.specs.Prelude.{◌≡◌, ◌+◌, ◌≤◌, IfOk, take, drop, length, codes};
+ghost use Rattle.std.specs.Prelude.{◌≡◌, ◌+◌, ◌≤◌, IfOk, string_bytes, take, drop, length, codes};
 ghost use Rattle.std.specs.Str.{is_utf8};
 ghost use Rattle.fed_journal.specs.Names.{same_text};
 ghost use Rattle.fed_schedule.specs.Words.{pieces_of, words_of, word_at, octets_of, text_of, is_text, is_hex_digit, begins_with_two_digits, is_well_escaped};
 
-use fed_journal::text::{Octets, Text};
+use amqp_props::{Octets, Text};
 use percent_encoding::percent_decode;
 use std::alloc::{AllocError, Global};
 use std::mem;
@@ -20,12 +20,12 @@ pub(crate) fn split(alloc: Global, octets: &[u8], separator: u8) -> Result<Vec<O
     for octet in octets {
         if *octet == separator {
             let whole = mem::replace(&mut piece, Vec::new(alloc));
-            pieces.push(Octets::new(whole))?;
+            pieces.push(Octets::new(alloc, whole)?)?;
         } else {
             piece.push(*octet)?;
         }
     }
-    pieces.push(Octets::new(piece))?;
+    pieces.push(Octets::new(alloc, piece)?)?;
     Ok(pieces)
 }
 
@@ -74,7 +74,7 @@ pub(crate) fn is_word(word: &[u8], text: &str) -> bool
 
 /// The octets that a word, or a part of one, stands for.
 #[tactic(auto, unfolding(crate::specs::Words::octets_of))]
-fn decode(alloc: Global, word: &[u8]) -> Result<Vec<u8>, AllocError>
+pub(crate) fn decode(alloc: Global, word: &[u8]) -> Result<Vec<u8>, AllocError>
     ensures { IfOk result (λ octets. octets.items ≡ octets_of word.now) }
 {
     let mut octets = Vec::new(alloc);
@@ -88,16 +88,23 @@ fn decode(alloc: Global, word: &[u8]) -> Result<Vec<u8>, AllocError>
 pub(crate) fn octets_of(alloc: Global, word: &[u8]) -> Result<Octets, AllocError>
     ensures { IfOk result (λ octets. octets ≡ octets_of word.now) }
 {
-    Ok(Octets::new(decode(alloc, word)?))
+    Octets::new(alloc, decode(alloc, word)?)
 }
 
 /// The text that a word stands for, with U+FFFD for octets that aren't UTF-8.
 #[tactic(auto, unfolding(crate::specs::Words::text_of))]
+pub(crate) fn string_of(alloc: Global, word: &[u8]) -> Result<String, AllocError>
+    ensures { IfOk result (λ text. string_bytes text ≡ text_of word.now) }
+{
+    let octets = decode(alloc, word)?;
+    String::from_utf8_lossy(alloc, octets.as_slice())
+}
+
+/// The same as a text of the run.
 pub(crate) fn text_of(alloc: Global, word: &[u8]) -> Result<Text, AllocError>
     ensures { IfOk result (λ text. text ≡ text_of word.now) }
 {
-    let octets = decode(alloc, word)?;
-    Ok(Text::new(String::from_utf8_lossy(alloc, octets.as_slice())?))
+    Ok(Text::new(string_of(alloc, word)?))
 }
 
 #[tactic(auto, using(crate::proofs::Utf8::is_utf8_no, crate::proofs::Utf8::is_utf8_yes))]

@@ -14,6 +14,11 @@ chosen_more : {X Y A : Type 0} (f : Y → List A) (g : X → Option Y) (bs : Lis
     → (bs ++ flat_map f (filter_map g xs)) ++ flat_map f (option_to_list (g x)) ≡ bs ++ flat_map f (filter_map g (xs ++ x ∷ []))
 chosen_more f g bs xs x = rw (filter_map-append g xs (x ∷ []), flat_map-append f (filter_map g xs) (filter_map g (x ∷ [])), chosen g x, append_assoc) refl
 
+-- what the element at i chooses comes behind what those before it do
+pub chosen_push : {X Y : Type 0} (g : X → Option Y) (xs : List X) (i : ℕ) (x : X)
+    → i < length xs → x ≡ get_or xs i x → filter_map g (take i xs) ++ option_to_list (g x) ≡ filter_map g (take (i + 1) xs)
+chosen_push g xs i x within is = rw (take_more xs i x within, ← is, filter_map-append g (take i xs) (x ∷ []), chosen g x) refl
+
 -- the piece of the element at i comes behind those of the elements before it
 pub chosen_step : {X Y A : Type 0} (f : Y → List A) (g : X → Option Y) (start page more : List A) (xs : List X) (i : ℕ) (x : X)
     → i < length xs → x ≡ get_or xs i x

@@ -1,3 +1,4 @@
+pub mod Bindings
 pub mod Links
 pub mod Listing
 pub mod Queues

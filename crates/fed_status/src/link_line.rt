@@ -2,10 +2,10 @@
 ghost use Rattle.std.specs.Prelude.{◌≡◌, ◌++◌, IfOk, OnOk};
 ghost use Rattle.fed_status.specs.Links.{counts_in, flight_counts, phase_word, number_word, counts_words, session_words, state_words, link_line};
 
+use amqp_props::Text;
 use fed_journal::entry::Entry;
 use fed_journal::link::{LinkSpec, Phase, StartState};
 use fed_journal::page::Page;
-use fed_journal::text::Text;
 use journal_scan::flight::{
     flight_confirmed, flight_noted, flight_published, flight_sent, flight_took,
 };

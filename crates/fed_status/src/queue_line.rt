@@ -1,13 +1,13 @@
 //! The lines of queues.
 ghost use Rattle.std.specs.Prelude.{◌≡◌, ◌++◌, All, IfOk, OnOk, flat_map};
 ghost use Rattle.std.specs.Option.{option_to_list};
-ghost use Rattle.fed_journal.specs.Copies.{IsNumbered};
+ghost use Rattle.fed_journal.specs.Copies.{IsFitting};
 ghost use Rattle.fed_status.specs.Queues.{held_count, queued, copy_word, mark_if, queue_line, queue_lines, queue_made};
 
+use amqp_props::Text;
 use fed_journal::entry::Entry;
 use fed_journal::page::Page;
 use fed_journal::place::Place;
-use fed_journal::text::Text;
 use journal_scan::copies::{entered_by, is_gone, is_stored};
 use journal_scan::holds::{entered, is_held, ready_count};
 use std::alloc::{AllocError, Global};
@@ -20,7 +20,7 @@ fn held_count(
     place: &Place,
     queue: &Text,
 ) -> Result<usize, AllocError>
-    requires { All IsNumbered journal.now }
+    requires { All IsFitting journal.now }
     ensures { IfOk result (λ count. count ≡ held_count journal.now place.now queue.now) }
 {
     let copies = entered(alloc, journal, place, queue)?;
@@ -40,7 +40,7 @@ fn queued(
     place: &Place,
     queue: &Text,
 ) -> Result<Vec<u64>, AllocError>
-    requires { All IsNumbered journal.now }
+    requires { All IsFitting journal.now }
     ensures { IfOk result (λ copies. copies.items ≡ queued journal.now place.now queue.now) }
 {
     journal
@@ -90,7 +90,7 @@ fn push_queue_line(
     queue: &Text,
     page: &mut Page,
 ) -> Result<(), AllocError>
-    requires { All IsNumbered journal.now }
+    requires { All IsFitting journal.now }
     ensures { OnOk result (page.new ≡ page.old ++ queue_line journal.now place.now queue.now) }
 {
     let ready = ready_count(alloc, journal, place, queue)?;
@@ -116,7 +116,7 @@ fn push_queue_made(
     entry: &Entry,
     page: &mut Page,
 ) -> Result<(), AllocError>
-    requires { All IsNumbered journal.now }
+    requires { All IsFitting journal.now }
     ensures { OnOk result (page.new ≡ page.old ++ flat_map (queue_line journal.now place.now) (option_to_list (queue_made place.now entry.now))) }
 {
     match entry {
@@ -137,7 +137,7 @@ pub fn push_queue_lines(
     place: &Place,
     page: &mut Page,
 ) -> Result<(), AllocError>
-    requires { All IsNumbered journal.now }
+    requires { All IsFitting journal.now }
     ensures { OnOk result (page.new ≡ page.old ++ queue_lines journal.now place.now) }
 {
     for entry in journal {

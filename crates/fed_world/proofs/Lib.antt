@@ -3,6 +3,7 @@ pub mod Described
 pub mod Held
 pub mod Inversions
 pub mod LastOpened
+pub mod LimitLemmas
 pub mod LinkNames
 pub mod Lists
 pub mod Moved
@@ -11,6 +12,7 @@ pub mod RowCaused
 pub mod RowFits
 pub mod RowHas
 pub mod RunKept
+pub mod SizeLemmas
 pub mod SoundLemmas
 pub mod Spares
 pub mod Stages

@@ -6,7 +6,7 @@ use Rattle.std.proofs.lemmas.Bool.{and_from, le-leb, lt-ltb}
 use Rattle.std.proofs.lemmas.Option.{none-some, same_Some}
 use Rattle.fed_journal.specs.declared.place.Place.{Place}
 use Rattle.fed_journal.specs.declared.event.Event.{Event}
-use Rattle.fed_journal.specs.declared.event.Event.TheVariants.{DeclareQueue, Publish, Consume, Cancel, Deliver, Get, Ack, Reject, Requeue, Purge, Close, Flush, SetShovel, Open, Take, Send, Accept, Confirm, Note, Settle, Show}
+use Rattle.fed_journal.specs.declared.event.Event.TheVariants.{DeclareQueue, DeclareExchange, Bind, Unbind, Publish, Consume, Cancel, Deliver, Get, Ack, Reject, Requeue, Purge, Close, Flush, SetShovel, Open, Take, Send, Accept, Confirm, Note, Settle, Show}
 use Rattle.fed_journal.specs.declared.event.Shovel.{Shovel}
 use Rattle.fed_journal.specs.declared.link.LinkSpec.{LinkSpec}
 use Rattle.fed_journal.specs.declared.link.StartState.{StartState}
@@ -30,8 +30,15 @@ use Rattle.fed_world.specs.Deliver.{is_busy, deliver_to, deliver_row}
 use Rattle.fed_world.specs.Get.{get_row}
 use Rattle.fed_world.specs.Purge.{purge_row}
 use Rattle.fed_world.specs.Close.{close_row}
-use Rattle.fed_world.specs.Declare.{declare_row, stands, is_refused, lasting}
-use Rattle.fed_world.specs.Publish.{publish_row}
+use Rattle.fed_world.specs.Declare.{declare_row, declared_queue, same_options, declare_exchange_row, declared_exchange, same_shape, is_exchange_refused, stands, is_refused, lasting}
+use Rattle.fed_world.specs.Publish.{publish_row, publish_refusal}
+use Rattle.amqp_props.specs.declared.link.QueueOptions.{QueueOptions}
+use Rattle.amqp_props.specs.declared.message.Message.{Message}
+use Rattle.route_core.specs.declared.binding.Binding.{Binding}
+use Rattle.fed_journal.specs.declared.place.ExchangeShape.{ExchangeShape}
+use Rattle.fed_journal.specs.Configuration.{queue_options, exchange_shape}
+use Rattle.fed_journal.specs.Routes.{is_bound}
+use Rattle.fed_world.specs.Bind.{bind_refusal, bind_row, unbind_row}
 use Rattle.fed_world.specs.Flush.{flush_row}
 use Rattle.fed_world.specs.SetShovel.{set_shovel_row}
 use Rattle.fed_world.specs.Open.{open_row, opened, open_if_startable, made_if, is_target_missing}
@@ -219,9 +226,9 @@ flush_row-caused : (J : List Entry) (b : List ℕ) → RowHas (EachCaused J) (fl
 unfolding flush_row
 flush_row-caused J b = either-has (EachCaused J) (is_broker J b) (Ok (Flushed b ∷ [])) (Err why.NoPlace) (tt, tt) tt
 
-publish_row-caused : (J : List Entry) (p : Place) (client : ℕ) (key body : List ℕ) (persistent : Bool) → RowHas (EachCaused J) (publish_row J p client key body persistent)
+publish_row-caused : (J : List Entry) (p : Place) (client : ℕ) (m : Message) → RowHas (EachCaused J) (publish_row J p client m)
 unfolding publish_row
-publish_row-caused J p client key body persistent = at_place-has (EachCaused J) J p _ (tt, tt)
+publish_row-caused J p client m = at_place-has (EachCaused J) J p _ (unless_refused-has (EachCaused J) (publish_refusal J p m.exchange) _ (tt, tt))
 
 place-vhost : (J : List Entry) (p : Place) → is_place J p ≡ true → same_text p.vhost (codes "/") ≡ true
 unfolding is_place
@@ -232,11 +239,33 @@ unfolding set_shovel_row
 set_shovel_row-caused J p name shovel =
     at_known_place-has (EachCaused J) J p _ (λ there. if_not-has (EachCaused J) (is_shovel_set J p name) (Ok []) (Ok (ShovelSet p name shovel ∷ [])) tt (λ fresh. ((place-vhost J p there, fresh), tt)))
 
-declare_row-caused : (J : List Entry) (p : Place) (q : List ℕ) → RowHas (EachCaused J) (declare_row J p q)
+declared_queue-caused : (J : List Entry) (p : Place) (q : List ℕ) (options : QueueOptions) (was : Option QueueOptions) → RowHas (EachCaused J) (declared_queue p q options was)
+declared_queue-caused J p q options None = (tt, tt)
+declared_queue-caused J p q options (Some was) = either-has (EachCaused J) (same_options was options) (Ok []) (Err (why.Refused 406)) tt tt
+
+declare_row-caused : (J : List Entry) (p : Place) (q : List ℕ) (options : QueueOptions) → RowHas (EachCaused J) (declare_row J p q options)
 unfolding declare_row
-declare_row-caused J p q =
-    at_place-has (EachCaused J) J p _ (either-has (EachCaused J) (is_refused J p q) _ _ tt
-    (either-has (EachCaused J) (stands J p q) (Ok []) (Ok (MadeQueue p q lasting ∷ [])) tt (tt, tt)))
+declare_row-caused J p q options =
+    at_place-has (EachCaused J) J p _ (either-has (EachCaused J) (is_refused J p q) _ _ tt (declared_queue-caused J p q options (queue_options J p q)))
+
+declared_exchange-caused : (J : List Entry) (p : Place) (x : List ℕ) (shape : ExchangeShape) (was : Option ExchangeShape) → RowHas (EachCaused J) (declared_exchange p x shape was)
+declared_exchange-caused J p x shape None = (tt, tt)
+declared_exchange-caused J p x shape (Some was) = either-has (EachCaused J) (same_shape was shape) (Ok []) (Err (why.Refused 406)) tt tt
+
+declare_exchange_row-caused : (J : List Entry) (p : Place) (x : List ℕ) (shape : ExchangeShape) → RowHas (EachCaused J) (declare_exchange_row J p x shape)
+unfolding declare_exchange_row
+declare_exchange_row-caused J p x shape =
+    at_place-has (EachCaused J) J p _ (either-has (EachCaused J) (is_exchange_refused J p x) _ _ tt (declared_exchange-caused J p x shape (exchange_shape J p x)))
+
+bind_row-caused : (J : List Entry) (p : Place) (b : Binding) → RowHas (EachCaused J) (bind_row J p b)
+unfolding bind_row
+bind_row-caused J p b =
+    at_place-has (EachCaused J) J p _ (unless_refused-has (EachCaused J) (bind_refusal J p b) _ (either-has (EachCaused J) (is_bound J p b) (Ok []) _ tt (tt, tt)))
+
+unbind_row-caused : (J : List Entry) (p : Place) (b : Binding) → RowHas (EachCaused J) (unbind_row J p b)
+unfolding unbind_row
+unbind_row-caused J p b =
+    at_place-has (EachCaused J) J p _ (unless_refused-has (EachCaused J) (bind_refusal J p b) _ (either-has (EachCaused J) (is_bound J p b) _ (Ok []) (tt, tt) tt))
 
 -- a declaration needs nothing, and leaves links as they are
 made_if-caused : (J : List Entry) (l : List ℕ) (spec : LinkSpec) (missing : Bool) (p : Place) (q : List ℕ) (es : List Entry) → link_of J l ≡ Some spec → ((K : List Entry) → link_of K l ≡ Some spec → EachCaused K es) → EachCaused J (made_if missing p q ++ es)
@@ -316,8 +345,11 @@ close_row-caused J p client = at_place-has (EachCaused J) J p _ (tt, tt)
 
 -- whatever the event
 pub next-caused : (J : List Entry) (e : Event) → RowHas (EachCaused J) (next J e)
-next-caused J (DeclareQueue p c q) = declare_row-caused J p q
-next-caused J (Publish p c key body persistent) = publish_row-caused J p c key body persistent
+next-caused J (DeclareQueue p c q options) = declare_row-caused J p q options
+next-caused J (DeclareExchange p c x shape) = declare_exchange_row-caused J p x shape
+next-caused J (Bind p c b) = bind_row-caused J p b
+next-caused J (Unbind p c b) = unbind_row-caused J p b
+next-caused J (Publish p c m) = publish_row-caused J p c m
 next-caused J (Consume p client q tag no_ack prefetch) = consume_row-caused J p client q tag no_ack prefetch
 next-caused J (Cancel p client tag) = cancel_row-caused J p client tag
 next-caused J (Deliver p client tag) = deliver_row-caused J p client tag

@@ -1,10 +1,11 @@
 -- Each row brings entries that fit.
 use Rattle.std.proofs.Common.{ℕ, ◌+◌, ◌≤◌, ◌<◌, ◌^◌, List, [], ◌∷◌, ◌++◌, length, Bool, true, false, Option, Some, None, arith, sym, subst, append_assoc, length-append}
-use Rattle.std.specs.Prelude.{Ok, Err, not, ◌&&◌, if◌then◌else◌, find}
+use Rattle.std.proofs.lemmas.List.Elements.{All-head, All-tail}
+use Rattle.std.specs.Prelude.{All, Ok, Err, not, ◌&&◌, if◌then◌else◌, find}
 use Rattle.fed_journal.specs.declared.place.Place.{Place}
-use Rattle.fed_journal.specs.declared.message.Message.{Message}
+use Rattle.amqp_props.specs.declared.message.Message.{Message}
 use Rattle.fed_journal.specs.declared.event.Event.{Event}
-use Rattle.fed_journal.specs.declared.event.Event.TheVariants.{DeclareQueue, Publish, Consume, Cancel, Deliver, Get, Ack, Reject, Requeue, Purge, Close, Flush, SetShovel, Open, Take, Send, Accept, Confirm, Note, Settle, Show}
+use Rattle.fed_journal.specs.declared.event.Event.TheVariants.{DeclareQueue, DeclareExchange, Bind, Unbind, Publish, Consume, Cancel, Deliver, Get, Ack, Reject, Requeue, Purge, Close, Flush, SetShovel, Open, Take, Send, Accept, Confirm, Note, Settle, Show}
 use Rattle.fed_journal.specs.declared.event.Shovel.{Shovel}
 use Rattle.fed_journal.specs.declared.link.LinkSpec.{LinkSpec}
 use Rattle.fed_journal.specs.declared.link.StartState.{StartState}
@@ -13,10 +14,10 @@ use Rattle.fed_journal.specs.declared.entry.Publisher.{Publisher}
 use Rattle.fed_journal.specs.declared.entry.Publisher.TheVariants.{Client, Link}
 use Rattle.fed_journal.specs.declared.entry.Publication.{Publication}
 use Rattle.fed_journal.specs.declared.entry.Entry.{Entry}
-use Rattle.fed_journal.specs.declared.entry.Entry.TheVariants.{MadeQueue, Flushed, ShovelSet, Opened}
+use Rattle.fed_journal.specs.declared.entry.Entry.TheVariants.{MadeQueue, Published, Flushed, ShovelSet, Opened}
 use Rattle.fed_journal.specs.Configuration.{is_place, is_broker}
 use Rattle.fed_journal.specs.Names.{is_reserved}
-use Rattle.fed_journal.specs.Copies.{copy_count, publication_of, is_secured}
+use Rattle.fed_journal.specs.Copies.{copy_count, publication_of, is_copy_of, is_secured}
 use Rattle.fed_journal.specs.Links.{link_of, is_shovel_set}
 use Rattle.fed_journal.specs.Phases.{phase, session, is_open}
 use Rattle.fed_journal.specs.Holds.{first_ready, ready_count}
@@ -32,8 +33,14 @@ use Rattle.fed_world.specs.Deliver.{is_busy, deliver_to, deliver_row}
 use Rattle.fed_world.specs.Get.{get_row}
 use Rattle.fed_world.specs.Purge.{purge_row}
 use Rattle.fed_world.specs.Close.{close_row}
-use Rattle.fed_world.specs.Declare.{declare_row, stands, is_refused, lasting}
-use Rattle.fed_world.specs.Publish.{publish_row, published, routes, first_copy, message}
+use Rattle.fed_world.specs.Declare.{declare_row, declared_queue, same_options, declare_exchange_row, declared_exchange, same_shape, is_exchange_refused, stands, is_refused, lasting}
+use Rattle.fed_world.specs.Publish.{publish_row, publish_refusal, published, first_copy}
+use Rattle.amqp_props.specs.declared.link.QueueOptions.{QueueOptions}
+use Rattle.route_core.specs.declared.binding.Binding.{Binding}
+use Rattle.fed_journal.specs.declared.place.ExchangeShape.{ExchangeShape}
+use Rattle.fed_journal.specs.Configuration.{queue_options, exchange_shape}
+use Rattle.fed_journal.specs.Routes.{is_bound, routes}
+use Rattle.fed_world.specs.Bind.{bind_refusal, bind_row, unbind_row}
 use Rattle.fed_world.specs.Flush.{flush_row}
 use Rattle.fed_world.specs.SetShovel.{set_shovel_row}
 use Rattle.fed_world.specs.Open.{open_row, opened, open_if_startable, made_if, is_target_missing}
@@ -43,6 +50,11 @@ use Rattle.fed_world.specs.Accept.{accept_row, accept_first, accepted}
 use Rattle.fed_world.specs.Confirm.{confirm_row, confirm_first, confirmed}
 use Rattle.fed_world.specs.Note.{note_row}
 use Rattle.fed_world.specs.Settle.{settle_row}
+use Rattle.fed_journal.specs.declared.journal.TheConstants.{MAX_ENTRIES}
+use Rattle.field_tables.specs.Tables.{IsTable}
+use Rattle.fed_journal.specs.Events.{IsWritable}
+use Rattle.fed_journal.specs.SiteLaws.{routes-few}
+use Rattle.fed_journal.specs.Sizes.{IsMessage, IsSized}
 use Rattle.fed_world.specs.Step.{next}
 use Rattle.fed_world.specs.Fits.{FitsEntry, EachFits, RowFits}
 
@@ -123,45 +135,78 @@ set_shovel_row-fits J p name shovel =
     at_place-fits J p _
     (elim (is_shovel_set J p name) as (λ v. RowFits J (if v then Ok [] else Ok (ShovelSet p name shovel ∷ []))) [ true ↦ tt | false ↦ (tt, tt) ])
 
-declare_row-fits : (J : List Entry) (p : Place) (q : List ℕ) → RowFits J (declare_row J p q)
+declared_queue-fits : (J : List Entry) (p : Place) (q : List ℕ) (options : QueueOptions) (was : Option QueueOptions) → RowFits J (declared_queue p q options was)
+declared_queue-fits J p q options None = (tt, tt)
+declared_queue-fits J p q options (Some was) = either-fits J (same_options was options) (Ok []) (Err (why.Refused 406)) tt tt
+
+declare_row-fits : (J : List Entry) (p : Place) (q : List ℕ) (options : QueueOptions) → RowFits J (declare_row J p q options)
 unfolding declare_row
-declare_row-fits J p q =
-    at_place-fits J p _
-    (elim (is_refused J p q) as (λ v. RowFits J (if v then Err (why.Refused 403) else if stands J p q then Ok [] else Ok (MadeQueue p q lasting ∷ []))) [
-      | true ↦ tt
-      | false ↦ elim (stands J p q) as (λ v. RowFits J (if v then Ok [] else Ok (MadeQueue p q lasting ∷ []))) [ true ↦ tt | false ↦ (tt, tt) ]
-    ])
+declare_row-fits J p q options =
+    at_place-fits J p _ (either-fits J (is_refused J p q) _ _ tt (declared_queue-fits J p q options (queue_options J p q)))
 
--- the copies of a message that the default exchange routes have numbers that fit
-routes-fit : (J : List Entry) (queues : List (List ℕ)) → length queues ≤ 1 → copy_count J < 2 ^ 63 → first_copy J queues + length queues < 2 ^ 64
+declared_exchange-fits : (J : List Entry) (p : Place) (x : List ℕ) (shape : ExchangeShape) (was : Option ExchangeShape) → RowFits J (declared_exchange p x shape was)
+declared_exchange-fits J p x shape None = (tt, tt)
+declared_exchange-fits J p x shape (Some was) = either-fits J (same_shape was shape) (Ok []) (Err (why.Refused 406)) tt tt
+
+declare_exchange_row-fits : (J : List Entry) (p : Place) (x : List ℕ) (shape : ExchangeShape) → RowFits J (declare_exchange_row J p x shape)
+unfolding declare_exchange_row
+declare_exchange_row-fits J p x shape =
+    at_place-fits J p _ (either-fits J (is_exchange_refused J p x) _ _ tt (declared_exchange-fits J p x shape (exchange_shape J p x)))
+
+bind_row-fits : (J : List Entry) (p : Place) (b : Binding) → IsTable b.args → RowFits J (bind_row J p b)
+unfolding bind_row
+bind_row-fits J p b t =
+    at_place-fits J p _ (unless_refused-fits J (bind_refusal J p b) _ (either-fits J (is_bound J p b) (Ok []) _ tt (t, tt)))
+
+unbind_row-fits : (J : List Entry) (p : Place) (b : Binding) → RowFits J (unbind_row J p b)
+unfolding unbind_row
+unbind_row-fits J p b =
+    at_place-fits J p _ (unless_refused-fits J (bind_refusal J p b) _ (either-fits J (is_bound J p b) _ (Ok []) (tt, tt) tt))
+
+-- copies of a message in so many queues have numbers that fit
+routes-fit : (J : List Entry) (queues : List (List ℕ)) → length queues ≤ 2 ^ 32 → copy_count J < 2 ^ 63 → first_copy J queues + length queues < 2 ^ 64
 routes-fit J [] few small = omega arith
-routes-fit J (q ∷ qs) few small = omega arith
+routes-fit J (q ∷ qs) few small = omega (arith, few, small)
 
-routes-few : (J : List Entry) (p : Place) (m : Message) → length (routes J p m) ≤ 1
-routes-few J p m =
-    elim (not (is_reserved m.key) && stands J p m.key) as (λ v. length (if v then m.key ∷ [] else []) ≤ 1) [ true ↦ omega arith | false ↦ omega arith ]
+published-fits : (J : List Entry) (p : Place) (by : Publisher) (m : Message) → IsMessage m → length J ≤ MAX_ENTRIES → copy_count J < 2 ^ 63 → FitsEntry J (published J p by m)
+published-fits J p by m t within small = (routes-fit J (routes J p m) (omega (arith, routes-few J p m, within)) small, t)
 
-published-fits : (J : List Entry) (p : Place) (by : Publisher) (m : Message) → copy_count J < 2 ^ 63 → FitsEntry J (published J p by m)
-published-fits J p by m small = routes-fit J (routes J p m) (routes-few J p m) small
-
-publish_row-fits : (J : List Entry) (p : Place) (client : ℕ) (key body : List ℕ) (persistent : Bool) → copy_count J < 2 ^ 63 → RowFits J (publish_row J p client key body persistent)
+publish_row-fits : (J : List Entry) (p : Place) (client : ℕ) (m : Message) → IsMessage m → length J ≤ MAX_ENTRIES → copy_count J < 2 ^ 63 → RowFits J (publish_row J p client m)
 unfolding publish_row
-publish_row-fits J p client key body persistent small =
-    at_place-fits J p _ (published-fits J p (Client (channel_of client)) (message key body persistent) small, tt)
+publish_row-fits J p client m t within small =
+    at_place-fits J p _ (unless_refused-fits J (publish_refusal J p m.exchange) _ (published-fits J p (Client (channel_of client)) m t within small, tt))
 
-accepted-fits : (J : List Entry) (spec : LinkSpec) (c : ℕ) (target : Option Place) (x : Option Publication) → copy_count J < 2 ^ 63 → RowFits J (accepted J spec c target x)
-accepted-fits J spec c (Some target) (Some x) small = (published-fits J target (Link spec.name (session J spec.name) c) (outgoing spec x.message) small, tt)
-accepted-fits J spec c (Some target) None small = tt
-accepted-fits J spec c None x small = tt
+-- a link's message has the properties and the body of the one that it took
+outgoing-sized : (spec : LinkSpec) (m : Message) → IsMessage m → IsMessage (outgoing spec m)
+outgoing-sized spec m t = record { short = t.short; body = t.body }
 
-accept_first-fits : (J : List Entry) (spec : LinkSpec) (c : Option ℕ) → copy_count J < 2 ^ 63 → RowFits J (accept_first J spec c)
-accept_first-fits J spec None small = tt
-accept_first-fits J spec (Some c) small = accepted-fits J spec c spec.target (publication_of c J) small
+abbrev IsSizedSource : Option Publication → Type 0
+IsSizedSource None = Unit {0}
+IsSizedSource (Some x) = IsMessage x.message
 
-accept_row-fits : (J : List Entry) (l : List ℕ) → copy_count J < 2 ^ 63 → RowFits J (accept_row J l)
+source-sized : (c : ℕ) (J : List Entry) → All IsSized J → IsSizedSource (publication_of c J)
+unfolding publication_of
+source-sized c [] h = tt
+source-sized c (Published x ∷ J) h =
+    elim (is_copy_of x c) as (λ v. IsSizedSource (if v then Some x else publication_of c J)) [
+      | true ↦ All-head IsSized (Published x) J h
+      | false ↦ source-sized c J (All-tail IsSized (Published x) J h)
+    ]
+source-sized c (e ∷ J) h = source-sized c J (All-tail IsSized e J h)
+
+accepted-fits : (J : List Entry) (spec : LinkSpec) (c : ℕ) (target : Option Place) (x : Option Publication) → IsSizedSource x → length J ≤ MAX_ENTRIES → copy_count J < 2 ^ 63 → RowFits J (accepted J spec c target x)
+accepted-fits J spec c (Some target) (Some x) t within small = (published-fits J target (Link spec.name (session J spec.name) c) (outgoing spec x.message) (outgoing-sized spec x.message t) within small, tt)
+accepted-fits J spec c (Some target) None t within small = tt
+accepted-fits J spec c None x t within small = tt
+
+accept_first-fits : (J : List Entry) (spec : LinkSpec) (c : Option ℕ) → All IsSized J → length J ≤ MAX_ENTRIES → copy_count J < 2 ^ 63 → RowFits J (accept_first J spec c)
+accept_first-fits J spec None sized within small = tt
+accept_first-fits J spec (Some c) sized within small = accepted-fits J spec c spec.target (publication_of c J) (source-sized c J sized) within small
+
+accept_row-fits : (J : List Entry) (l : List ℕ) → All IsSized J → length J ≤ MAX_ENTRIES → copy_count J < 2 ^ 63 → RowFits J (accept_row J l)
 unfolding accept_row
-accept_row-fits J l small =
-    with_link-fits J l _ (λ spec. while_open-fits J l _ (accept_first-fits J spec (oldest (flight_sent J l (session J l))) small))
+accept_row-fits J l sized within small =
+    with_link-fits J l _ (λ spec. while_open-fits J l _ (accept_first-fits J spec (oldest (flight_sent J l (session J l))) sized within small))
 
 confirmed-fits : (J : List Entry) (l : List ℕ) (s : ℕ) (p : Option ℕ) → RowFits J (confirmed l s p)
 confirmed-fits J l s None = tt
@@ -215,25 +260,28 @@ unfolding open_row
 open_row-fits J l h = with_link-fits J l _ (λ spec. open_if_startable-fits J spec spec.start (h spec.name))
 
 -- whatever the event, its entries fit
-pub next-fits : (J : List Entry) (e : Event) → copy_count J < 2 ^ 63 → ((k : List ℕ) → session J k ≤ length J) → RowFits J (next J e)
-next-fits J (DeclareQueue p c q) small h = declare_row-fits J p q
-next-fits J (Publish p c key body persistent) small h = publish_row-fits J p c key body persistent small
-next-fits J (Consume p client q tag no_ack prefetch) small h = consume_row-fits J p client q tag no_ack prefetch
-next-fits J (Cancel p client tag) small h = cancel_row-fits J p client tag
-next-fits J (Deliver p client tag) small h = deliver_row-fits J p client tag
-next-fits J (Get p client q no_ack) small h = get_row-fits J p client q no_ack
-next-fits J (Ack p client c) small h = ack_row-fits J p client c
-next-fits J (Reject p client c) small h = reject_row-fits J p client c
-next-fits J (Requeue p client c) small h = requeue_row-fits J p client c
-next-fits J (Purge p client q) small h = purge_row-fits J p q
-next-fits J (Close p client) small h = close_row-fits J p client
-next-fits J (Flush b) small h = flush_row-fits J b
-next-fits J (SetShovel p name shovel) small h = set_shovel_row-fits J p name shovel
-next-fits J (Open l) small h = open_row-fits J l h
-next-fits J (Take l) small h = take_row-fits J l
-next-fits J (Send l) small h = send_row-fits J l
-next-fits J (Accept l) small h = accept_row-fits J l small
-next-fits J (Confirm l) small h = confirm_row-fits J l
-next-fits J (Note l) small h = note_row-fits J l
-next-fits J (Settle l) small h = settle_row-fits J l
-next-fits J Show small h = tt
+pub next-fits : (J : List Entry) (e : Event) → IsWritable e → length J ≤ MAX_ENTRIES → copy_count J < 2 ^ 63 → ((k : List ℕ) → session J k ≤ length J) → All IsSized J → RowFits J (next J e)
+next-fits J (DeclareQueue p c q options) w within small h sized = declare_row-fits J p q options
+next-fits J (DeclareExchange p c x shape) w within small h sized = declare_exchange_row-fits J p x shape
+next-fits J (Bind p c b) w within small h sized = bind_row-fits J p b w
+next-fits J (Unbind p c b) w within small h sized = unbind_row-fits J p b
+next-fits J (Publish p c m) w within small h sized = publish_row-fits J p c m w within small
+next-fits J (Consume p client q tag no_ack prefetch) w within small h sized = consume_row-fits J p client q tag no_ack prefetch
+next-fits J (Cancel p client tag) w within small h sized = cancel_row-fits J p client tag
+next-fits J (Deliver p client tag) w within small h sized = deliver_row-fits J p client tag
+next-fits J (Get p client q no_ack) w within small h sized = get_row-fits J p client q no_ack
+next-fits J (Ack p client c) w within small h sized = ack_row-fits J p client c
+next-fits J (Reject p client c) w within small h sized = reject_row-fits J p client c
+next-fits J (Requeue p client c) w within small h sized = requeue_row-fits J p client c
+next-fits J (Purge p client q) w within small h sized = purge_row-fits J p q
+next-fits J (Close p client) w within small h sized = close_row-fits J p client
+next-fits J (Flush b) w within small h sized = flush_row-fits J b
+next-fits J (SetShovel p name shovel) w within small h sized = set_shovel_row-fits J p name shovel
+next-fits J (Open l) w within small h sized = open_row-fits J l h
+next-fits J (Take l) w within small h sized = take_row-fits J l
+next-fits J (Send l) w within small h sized = send_row-fits J l
+next-fits J (Accept l) w within small h sized = accept_row-fits J l sized within small
+next-fits J (Confirm l) w within small h sized = confirm_row-fits J l
+next-fits J (Note l) w within small h sized = note_row-fits J l
+next-fits J (Settle l) w within small h sized = settle_row-fits J l
+next-fits J Show w within small h sized = tt

@@ -4,7 +4,7 @@ use Rattle.std.specs.Prelude.{Ok, Err, not, cond, ◌==◌, find}
 use Rattle.std.proofs.lemmas.Bool.{true≢false}
 use Rattle.fed_journal.specs.declared.place.Place.{Place}
 use Rattle.fed_journal.specs.declared.event.Event.{Event}
-use Rattle.fed_journal.specs.declared.event.Event.TheVariants.{DeclareQueue, Publish, Consume, Cancel, Deliver, Get, Ack, Reject, Requeue, Purge, Close, Flush, SetShovel, Open, Take, Send, Accept, Confirm, Note, Settle, Show}
+use Rattle.fed_journal.specs.declared.event.Event.TheVariants.{DeclareQueue, DeclareExchange, Bind, Unbind, Publish, Consume, Cancel, Deliver, Get, Ack, Reject, Requeue, Purge, Close, Flush, SetShovel, Open, Take, Send, Accept, Confirm, Note, Settle, Show}
 use Rattle.fed_journal.specs.declared.event.Shovel.{Shovel}
 use Rattle.fed_journal.specs.declared.link.LinkSpec.{LinkSpec}
 use Rattle.fed_journal.specs.declared.link.StartState.{StartState}
@@ -24,8 +24,15 @@ use Rattle.fed_world.specs.Row.{oldest, queue_refusal}
 use Rattle.fed_world.specs.Answer.{answer_refusal, requeue_row}
 use Rattle.fed_world.specs.Consume.{consumes, consume_row, cancel_row}
 use Rattle.fed_world.specs.Close.{close_row}
-use Rattle.fed_world.specs.Declare.{declare_row, stands, is_refused, lasting}
-use Rattle.fed_world.specs.Publish.{publish_row}
+use Rattle.fed_world.specs.Declare.{declare_row, declared_queue, same_options, declare_exchange_row, declared_exchange, same_shape, is_exchange_refused, stands, is_refused, lasting}
+use Rattle.fed_world.specs.Publish.{publish_row, publish_refusal}
+use Rattle.amqp_props.specs.declared.link.QueueOptions.{QueueOptions}
+use Rattle.amqp_props.specs.declared.message.Message.{Message}
+use Rattle.route_core.specs.declared.binding.Binding.{Binding}
+use Rattle.fed_journal.specs.declared.place.ExchangeShape.{ExchangeShape}
+use Rattle.fed_journal.specs.Configuration.{queue_options, exchange_shape}
+use Rattle.fed_journal.specs.Routes.{is_bound}
+use Rattle.fed_world.specs.Bind.{bind_refusal, bind_row, unbind_row}
 use Rattle.fed_world.specs.Flush.{flush_row}
 use Rattle.fed_world.specs.SetShovel.{set_shovel_row}
 use Rattle.fed_world.specs.Open.{open_row, opened, open_if_startable, made_if, is_target_missing}
@@ -106,20 +113,42 @@ flush_row-spares : (J : List Entry) (b : List ℕ) → RowHas Spares (flush_row 
 unfolding flush_row
 flush_row-spares J b = either-has Spares (is_broker J b) (Ok (Flushed b ∷ [])) (Err why.NoPlace) (λ c y t h. stays t h, tt) tt
 
-publish_row-spares : (J : List Entry) (p : Place) (client : ℕ) (key body : List ℕ) (persistent : Bool) → RowHas Spares (publish_row J p client key body persistent)
+publish_row-spares : (J : List Entry) (p : Place) (client : ℕ) (m : Message) → RowHas Spares (publish_row J p client m)
 unfolding publish_row
-publish_row-spares J p client key body persistent = at_place-has Spares J p _ (λ c y t h. stays t h, tt)
+publish_row-spares J p client m = at_place-has Spares J p _ (unless_refused-has Spares (publish_refusal J p m.exchange) _ (λ c y t h. stays t h, tt))
 
 set_shovel_row-spares : (J : List Entry) (p : Place) (name : List ℕ) (shovel : Shovel) → RowHas Spares (set_shovel_row J p name shovel)
 unfolding set_shovel_row
 set_shovel_row-spares J p name shovel =
     at_place-has Spares J p _ (either-has Spares (is_shovel_set J p name) (Ok []) (Ok (ShovelSet p name shovel ∷ [])) tt (λ c y t h. stays t h, tt))
 
-declare_row-spares : (J : List Entry) (p : Place) (q : List ℕ) → RowHas Spares (declare_row J p q)
+declared_queue-spares : (p : Place) (q : List ℕ) (options : QueueOptions) (was : Option QueueOptions) → RowHas Spares (declared_queue p q options was)
+declared_queue-spares p q options None = (λ c y t h. stays t h, tt)
+declared_queue-spares p q options (Some was) = either-has Spares (same_options was options) (Ok []) (Err (why.Refused 406)) tt tt
+
+declare_row-spares : (J : List Entry) (p : Place) (q : List ℕ) (options : QueueOptions) → RowHas Spares (declare_row J p q options)
 unfolding declare_row
-declare_row-spares J p q =
-    at_place-has Spares J p _ (either-has Spares (is_refused J p q) _ _ tt
-    (either-has Spares (stands J p q) (Ok []) (Ok (MadeQueue p q lasting ∷ [])) tt (λ c y t h. stays t h, tt)))
+declare_row-spares J p q options =
+    at_place-has Spares J p _ (either-has Spares (is_refused J p q) _ _ tt (declared_queue-spares p q options (queue_options J p q)))
+
+declared_exchange-spares : (p : Place) (x : List ℕ) (shape : ExchangeShape) (was : Option ExchangeShape) → RowHas Spares (declared_exchange p x shape was)
+declared_exchange-spares p x shape None = (λ c y t h. stays t h, tt)
+declared_exchange-spares p x shape (Some was) = either-has Spares (same_shape was shape) (Ok []) (Err (why.Refused 406)) tt tt
+
+declare_exchange_row-spares : (J : List Entry) (p : Place) (x : List ℕ) (shape : ExchangeShape) → RowHas Spares (declare_exchange_row J p x shape)
+unfolding declare_exchange_row
+declare_exchange_row-spares J p x shape =
+    at_place-has Spares J p _ (either-has Spares (is_exchange_refused J p x) _ _ tt (declared_exchange-spares p x shape (exchange_shape J p x)))
+
+bind_row-spares : (J : List Entry) (p : Place) (b : Binding) → RowHas Spares (bind_row J p b)
+unfolding bind_row
+bind_row-spares J p b =
+    at_place-has Spares J p _ (unless_refused-has Spares (bind_refusal J p b) _ (either-has Spares (is_bound J p b) (Ok []) _ tt (λ c y t h. stays t h, tt)))
+
+unbind_row-spares : (J : List Entry) (p : Place) (b : Binding) → RowHas Spares (unbind_row J p b)
+unfolding unbind_row
+unbind_row-spares J p b =
+    at_place-has Spares J p _ (unless_refused-has Spares (bind_refusal J p b) _ (either-has Spares (is_bound J p b) _ (Ok []) (λ c y t h. stays t h, tt) tt))
 
 -- a declaration spares, where what follows it does
 made_if-spares : (missing : Bool) (p : Place) (q : List ℕ) (es : List Entry) → Spares es → Spares (made_if missing p q ++ es)
@@ -164,8 +193,11 @@ close_row-spares J p client = at_place-has Spares J p _ (λ c y t h. ended p cli
 
 -- whatever the event, unless it is a removal
 pub next-spares : (J : List Entry) (e : Event) → is_removal e ≡ false → RowHas Spares (next J e)
-next-spares J (DeclareQueue p c q) h = declare_row-spares J p q
-next-spares J (Publish p c key body persistent) h = publish_row-spares J p c key body persistent
+next-spares J (DeclareQueue p c q options) h = declare_row-spares J p q options
+next-spares J (DeclareExchange p c x shape) h = declare_exchange_row-spares J p x shape
+next-spares J (Bind p c b) h = bind_row-spares J p b
+next-spares J (Unbind p c b) h = unbind_row-spares J p b
+next-spares J (Publish p c m) h = publish_row-spares J p c m
 next-spares J (Consume p client q tag no_ack prefetch) h = consume_row-spares J p client q tag no_ack prefetch
 next-spares J (Cancel p client tag) h = cancel_row-spares J p client tag
 next-spares J (Deliver p client tag) h = absurd (true≢false h)

@@ -1,12 +1,15 @@
 -- What each entry of a row keeps, so that every journal of a run is sound.
 use Rattle.std.specs.Prelude.{◌+◌, ◌≤◌, ◌<◌, ◌^◌, List, [], ◌∷◌, ◌++◌, length, Ok, Err}
+use Rattle.field_tables.specs.Tables.{IsTable}
 use Rattle.fed_journal.specs.declared.entry.Entry.{Entry}
-use Rattle.fed_journal.specs.declared.entry.Entry.TheVariants.{Published, Opened}
+use Rattle.fed_journal.specs.declared.entry.Entry.TheVariants.{Published, Bound, Opened}
+use Rattle.fed_journal.specs.Sizes.{IsMessage}
 use Rattle.fed_world.specs.Row.{Row}
 
--- the numbers that the entry brings fit their types
+-- the numbers that the entry brings fit their types, its message is one that can be sent, and its arguments are a field table
 abbrev pub FitsEntry : List Entry → Entry → Type 0
-FitsEntry J (Published x) = x.first + length x.queues < 2 ^ 64
+FitsEntry J (Published x) = (x.first + length x.queues < 2 ^ 64) × IsMessage x.message
+FitsEntry J (Bound p b) = IsTable b.args
 FitsEntry J (Opened l s r) = s ≤ length J + 1
 FitsEntry J _ = Unit {0}
 

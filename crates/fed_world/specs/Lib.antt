@@ -1,5 +1,6 @@
 pub mod Accept
 pub mod Answer
+pub mod Bind
 pub mod Close
 pub mod Confirm
 pub mod Consume
@@ -9,6 +10,7 @@ pub mod Fits
 pub mod Flush
 pub mod Get
 pub mod Kept
+pub mod Limits
 pub mod Note
 pub mod Open
 pub mod Publish

@@ -1,13 +1,13 @@
 -- One event, and what becomes of it.
-use Rattle.std.specs.Prelude.{◌+◌, ◌<◌, List, [], ◌++◌, Bool, true, false, length, Ok, Err}
+use Rattle.std.specs.Prelude.{List, [], ◌++◌, Bool, true, false, length, Ok, Err}
 use Rattle.fed_journal.specs.declared.entry.Entry.{Entry}
 use Rattle.fed_journal.specs.declared.event.Event.{Event}
-use Rattle.fed_journal.specs.declared.event.Event.TheVariants.{DeclareQueue, Publish, Consume, Cancel, Deliver, Get, Ack, Reject, Requeue, Purge, Close, Flush, SetShovel, Open, Take, Send, Accept, Confirm, Note, Settle, Show}
-use Rattle.fed_journal.specs.declared.journal.TheConstants.{MAX_ENTRIES}
+use Rattle.fed_journal.specs.declared.event.Event.TheVariants.{DeclareQueue, DeclareExchange, Bind, Unbind, Publish, Consume, Cancel, Deliver, Get, Ack, Reject, Requeue, Purge, Close, Flush, SetShovel, Open, Take, Send, Accept, Confirm, Note, Settle, Show}
 use Rattle.fed_world.specs.declared.reason.Outcome.{Outcome}
 use Rattle.fed_world.specs.declared.reason.Outcome.TheVariants.{Done, NotNow}
 use Rattle.fed_world.specs.Row.{Row}
-use Rattle.fed_world.specs.Declare.{declare_row}
+use Rattle.fed_world.specs.Declare.{declare_row, declare_exchange_row}
+use Rattle.fed_world.specs.Bind.{bind_row, unbind_row}
 use Rattle.fed_world.specs.Publish.{publish_row}
 use Rattle.fed_world.specs.Consume.{consume_row, cancel_row}
 use Rattle.fed_world.specs.Deliver.{deliver_row}
@@ -27,8 +27,11 @@ use Rattle.fed_world.specs.Settle.{settle_row}
 
 -- each event by its own rule
 abbrev pub next : List Entry → Event → Row
-next J (DeclareQueue place client queue) = declare_row J place queue
-next J (Publish place client key body persistent) = publish_row J place client key body persistent
+next J (DeclareQueue place client queue options) = declare_row J place queue options
+next J (DeclareExchange place client exchange shape) = declare_exchange_row J place exchange shape
+next J (Bind place client binding) = bind_row J place binding
+next J (Unbind place client binding) = unbind_row J place binding
+next J (Publish place client message) = publish_row J place client message
 next J (Consume place client queue tag no_ack prefetch) = consume_row J place client queue tag no_ack prefetch
 next J (Cancel place client tag) = cancel_row J place client tag
 next J (Deliver place client tag) = deliver_row J place client tag
@@ -70,8 +73,3 @@ after J (Err reason) = J
 abbrev pub outcome_of : Row → Outcome
 outcome_of (Ok entries) = Done (length entries)
 outcome_of (Err reason) = NotNow reason
-
--- the entries would pass the journal's limit
-abbrev pub IsOver : List Entry → Row → Type 0
-IsOver J (Ok entries) = MAX_ENTRIES < length J + length entries
-IsOver J (Err reason) = ⊥

@@ -2,6 +2,7 @@
 #![tactic(auto)]
 
 pub mod kept;
+pub mod limits;
 pub mod reason;
 pub mod row;
 pub mod rows;

@@ -4,9 +4,10 @@ ghost use Rattle.fed_world.specs.RowOf.{row_of};
 ghost use Rattle.fed_world.specs.Row.{channel_of, queue_refusal};
 
 use crate::reason::Reason;
+use amqp_props::Text;
 use fed_journal::entry::Entry;
 use fed_journal::place::{Client, Place};
-use fed_journal::text::{Text, is_reserved};
+use fed_journal::text::is_reserved;
 use journal_scan::configuration::queue_options;
 use std::alloc::{AllocError, Global};
 

@@ -1,6 +1,7 @@
 //! One function per event: what it appends, or why it doesn't happen now.
 pub mod accept;
 pub mod answer;
+pub mod bind;
 pub mod close;
 pub mod confirm;
 pub mod consume;

@@ -1,7 +1,7 @@
 use crate::reason::{Outcome, Reason};
 use crate::world::World;
+use amqp_props::Text;
 use fed_journal::event::Event;
-use fed_journal::text::Text;
 use std::test::Fail;
 
 #[test]

@@ -6,7 +6,9 @@ use Rattle.fed_schedule.specs.declared.script.LineReason.{LineReason}
 use Rattle.fed_schedule.specs.declared.script.LineReason.TheVariants as why
 use Rattle.fed_outside.specs.Outside.{Rose, grown, GrownByPrefix}
 use Rattle.fedrun_cli.specs.declared.ending.Ending.{Ending}
-use Rattle.fedrun_cli.specs.declared.ending.Ending.TheVariants.{Done, Memory, Usage, Line, ReadFault, WriteFault, FileTooLong, Places, Absent}
+use Rattle.fedrun_cli.specs.declared.ending.Ending.TheVariants.{Done, Memory, Usage, Line, Events, ReadFault, WriteFault, FileTooLong, Places, Limit, Report, Absent}
+use Rattle.fedrun_cli.specs.declared.ending.RunLimit.{RunLimit}
+use Rattle.fedrun_cli.specs.declared.ending.RunLimit.TheVariants.{Links, Entries, Bytes}
 
 -- the exit status
 abbrev pub status_of : Ending → ℕ
@@ -14,10 +16,13 @@ status_of Done = 0
 status_of Memory = 1
 status_of Usage = 2
 status_of (Line line reason) = 4
+status_of (Events line) = 7
 status_of ReadFault = 5
 status_of WriteFault = 6
 status_of FileTooLong = 7
 status_of Places = 7
+status_of (Limit line limit) = 7
+status_of Report = 7
 status_of Absent = 8
 
 unfoldable pub line_reason_word : LineReason → List ℕ
@@ -31,6 +36,8 @@ line_reason_word why.Name = codes "name"
 line_reason_word why.Twice = codes "twice"
 line_reason_word why.Option = codes "option"
 line_reason_word why.Value = codes "value"
+line_reason_word why.Times = codes "times"
+line_reason_word why.Events = codes "events"
 
 abbrev pub word_line : List ℕ → List ℕ → List ℕ
 word_line start name = start ++ word name ++ codes "\n"
@@ -38,16 +45,30 @@ word_line start name = start ++ word name ++ codes "\n"
 abbrev pub fault_line : List ℕ → ℕ → LineReason → List ℕ
 fault_line start line reason = start ++ decimal line ++ codes " " ++ line_reason_word reason ++ codes "\n"
 
+abbrev pub events_line : List ℕ → ℕ → List ℕ
+events_line start line = start ++ decimal line ++ codes "\n"
+
+unfoldable pub limit_word : RunLimit → List ℕ
+limit_word Links = codes "links"
+limit_word Entries = codes "entries"
+limit_word Bytes = codes "bytes"
+
+abbrev pub limit_line : List ℕ → RunLimit → List ℕ → ℕ → List ℕ
+limit_line start limit middle line = start ++ limit_word limit ++ middle ++ decimal line ++ codes "\n"
+
 -- the line of each ending, where FILE is printed as a word
 unfoldable pub error_line : Ending → List ℕ → List ℕ
 error_line Done file = []
 error_line Memory file = codes "fedrun: memory\n"
 error_line Usage file = codes "fedrun: usage\n"
 error_line (Line line reason) file = fault_line (codes "fedrun: schedule line ") line reason
+error_line (Events line) file = events_line (codes "fedrun: limit events line ") line
 error_line ReadFault file = word_line (codes "fedrun: read fault ") file
 error_line WriteFault file = codes "fedrun: write fault\n"
 error_line FileTooLong file = word_line (codes "fedrun: limit file ") file
 error_line Places file = codes "fedrun: limit places\n"
+error_line (Limit line limit) file = limit_line (codes "fedrun: limit ") limit (codes " line ") line
+error_line Report file = codes "fedrun: limit report\n"
 error_line Absent file = word_line (codes "fedrun: absent ") file
 
 -- A sink took the whole of the octets, or a prefix of them where its own count rose.

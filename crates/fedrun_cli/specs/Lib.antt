@@ -1,3 +1,4 @@
+pub mod Completeness
 pub mod Endings
 pub mod Ends
 pub mod Outcomes

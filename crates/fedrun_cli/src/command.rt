@@ -1,21 +1,23 @@
 //! The command `run`.
-ghost use Rattle.std.specs.Prelude.{◌≡◌, ◌≤◌, [], length, vec_len, false, IfOk, IfErr, Ok, string_bytes};
+ghost use Rattle.std.specs.Prelude.{◌≡◌, ◌≤◌, [], length, vec_len, false, All, None, IfOk, IfErr, Ok, string_bytes};
+ghost use Rattle.fed_journal.specs.Events.{IsWritable};
 ghost use Rattle.fed_schedule.specs.Schedule.{Reading, reading, reading_of};
 ghost use Rattle.fedrun_cli.specs.Endings.{status_of, error_line, Took};
+ghost use Rattle.fedrun_cli.specs.Completeness.{IsComplete};
 ghost use Rattle.fedrun_cli.specs.Ends.{Outside, EndsRun};
-ghost use Rattle.fedrun_cli.specs.Outcomes.{HasFile, LoadEnds, ReadEnds, Explains, IsKeptRun, output};
+ghost use Rattle.fedrun_cli.specs.Outcomes.{HasFile, LoadEnds, ReadEnds, Explains, IsKeptRun, output, limit_in};
 
 use crate::ending::{Ending, say, status_of};
-use crate::report::report;
+use crate::report::{MAX_REPORT, report};
 use fed_journal::page::Page;
 use fed_outside::{Loaded, Shelf, Sink};
 use fed_schedule::schedule::read;
-use fed_schedule::script::{ScheduleFault, Script};
+use fed_schedule::script::{LineReason, ScheduleFault, Script};
 use fed_world::kept::kept;
 use std::alloc::Global;
 
 /// The most octets of a schedule's file.
-pub const MAX_FILE: usize = 16_384;
+pub const MAX_FILE: usize = 67_108_864;
 
 /// The most places of a run.
 pub const MAX_PLACES: usize = 64;
@@ -46,10 +48,17 @@ fn load<F: Shelf>(alloc: Global, schedule: &str, shelf: &mut F) -> Result<Vec<u8
 fn script_of(alloc: Global, bytes: &[u8]) -> Result<Script, Ending>
     requires { length bytes.now ≤ MAX_FILE }
     ensures script { IfOk result (λ script. reading bytes.now ≡ Ok (reading_of script)) }
+    ensures writable { IfOk result (λ script. All (λ e. IsWritable e.1) script.events.items) }
     ensures ending { IfErr result (ReadEnds bytes.now) }
 {
     match read(alloc, bytes) {
         Ok(script) => Ok(script),
+        Err(
+            ScheduleFault::Line {
+                line,
+                reason: LineReason::Events,
+            },
+        ) => Err(Ending::Events { line }),
         Err(ScheduleFault::Line { line, reason }) => Err(Ending::Line { line, reason }),
         Err(ScheduleFault::Memory) => Err(Ending::Memory),
     }
@@ -58,7 +67,7 @@ fn script_of(alloc: Global, bytes: &[u8]) -> Result<Script, Ending>
 /// The output of the run that the octets spell.
 fn output_of(alloc: Global, bytes: &[u8]) -> Result<Page, Ending>
     requires { length bytes.now ≤ MAX_FILE }
-    ensures output { IfOk result (λ page. (r : Reading) × (reading bytes.now ≡ Ok r) × (page ≡ output r) × IsKeptRun r) }
+    ensures output { IfOk result (λ page. (r : Reading) × (reading bytes.now ≡ Ok r) × (page ≡ output r) × IsKeptRun r × (limit_in r ≡ None) × (length (output r) ≤ MAX_REPORT)) }
     ensures ending { IfErr result (ReadEnds bytes.now) }
 {
     let script = script_of(alloc, bytes)?;
@@ -68,7 +77,7 @@ fn output_of(alloc: Global, bytes: &[u8]) -> Result<Page, Ending>
     kept();
     match report(alloc, script.brokers.as_slice(), script.events.as_slice()) {
         Ok(page) => Ok(page),
-        Err(_) => Err(Ending::Memory),
+        Err(ending) => Err(ending),
     }
 }
 
@@ -96,6 +105,24 @@ fn run_schedule<F: Shelf, O: Sink>(
     }
 }
 
+/// Runs the schedule, puts the output or the line of the ending, and answers the exit status.
+fn run_to_end<F: Shelf, O: Sink, E: Sink>(
+    alloc: Global,
+    schedule: &str,
+    shelf: &mut F,
+    out: &mut O,
+    err: &mut E,
+) -> u8
+    ensures { EndsRun schedule.now
+        (record { files = F.files shelf.old; read_faults = F.faults shelf.old; out_told = O.told out.old; out_faults = O.faults out.old; err_told = E.told err.old; err_faults = E.faults err.old })
+        (record { files = F.files shelf.new; read_faults = F.faults shelf.new; out_told = O.told out.new; out_faults = O.faults out.new; err_told = E.told err.new; err_faults = E.faults err.new })
+        result }
+{
+    let ending = run_schedule(alloc, schedule, shelf, out);
+    let ending = say(alloc, ending, schedule, err);
+    status_of(ending)
+}
+
 /// Runs a schedule: loads and reads the file, replays it, and prints the report. Answers the exit status, and puts the line of
 /// any status but 0 into `err`. In this version the run has no broker arguments, and no output but the report.
 pub fn run_command<F: Shelf, O: Sink, E: Sink>(
@@ -111,12 +138,14 @@ pub fn run_command<F: Shelf, O: Sink, E: Sink>(
     requires bare { length brokers.now ≡ 0 }
     requires no_journal { journal ≡ false }
     requires no_wire { wire ≡ false }
-    ensures { EndsRun schedule.now
+    ensures ends { EndsRun schedule.now
+        (record { files = F.files shelf.old; read_faults = F.faults shelf.old; out_told = O.told out.old; out_faults = O.faults out.old; err_told = E.told err.old; err_faults = E.faults err.old })
+        (record { files = F.files shelf.new; read_faults = F.faults shelf.new; out_told = O.told out.new; out_faults = O.faults out.new; err_told = E.told err.new; err_faults = E.faults err.new })
+        result }
+    ensures complete { IsComplete schedule.now
         (record { files = F.files shelf.old; read_faults = F.faults shelf.old; out_told = O.told out.old; out_faults = O.faults out.old; err_told = E.told err.old; err_faults = E.faults err.old })
         (record { files = F.files shelf.new; read_faults = F.faults shelf.new; out_told = O.told out.new; out_faults = O.faults out.new; err_told = E.told err.new; err_faults = E.faults err.new })
         result }
 {
-    let ending = run_schedule(alloc, schedule, shelf, out);
-    let ending = say(alloc, ending, schedule, err);
-    status_of(ending)
+    run_to_end(alloc, schedule, shelf, out, err)
 }

@@ -1,11 +1,22 @@
 //! How a command ends.
 ghost use Rattle.std.specs.Prelude.{◌≡◌, ◌++◌, OnOk, IfOk, List, ℕ, false};
-ghost use Rattle.fedrun_cli.specs.Endings.{status_of, line_reason_word, word_line, fault_line, error_line, needs_memory, Stands, Took};
+ghost use Rattle.fedrun_cli.specs.Endings.{status_of, line_reason_word, word_line, fault_line, events_line, limit_word, limit_line, error_line, needs_memory, Stands, Took};
 
 use fed_journal::page::Page;
 use fed_outside::Sink;
 use fed_schedule::script::LineReason;
 use std::alloc::{AllocError, Global};
+
+/// A limit that an event of a run would pass.
+#[derive(Clone, Copy)]
+pub enum RunLimit {
+    /// 4,096 links.
+    Links,
+    /// 2,000,000 entries.
+    Entries,
+    /// 268,435,456 octets of messages.
+    Bytes,
+}
 
 /// How a command ended.
 #[derive(Clone, Copy)]
@@ -16,6 +27,8 @@ pub enum Ending {
     Usage,
     /// A line of the schedule is refused.
     Line { line: u32, reason: LineReason },
+    /// That line holds or repeats the event past 100,000.
+    Events { line: u32 },
     /// The file could not be read.
     ReadFault,
     /// The output could not be written whole.
@@ -24,6 +37,10 @@ pub enum Ending {
     FileTooLong,
     /// The run has over 64 places.
     Places,
+    /// The event of that line would pass the limit.
+    Limit { line: u32, limit: RunLimit },
+    /// The output would have over 67,108,864 octets.
+    Report,
     /// There is no such file.
     Absent,
 }
@@ -39,7 +56,11 @@ pub(crate) fn status_of(ending: Ending) -> u8
         Ending::Line { .. } => 4,
         Ending::ReadFault => 5,
         Ending::WriteFault => 6,
-        Ending::FileTooLong | Ending::Places => 7,
+        Ending::Events { .. }
+        | Ending::FileTooLong
+        | Ending::Places
+        | Ending::Limit { .. }
+        | Ending::Report => 7,
         Ending::Absent => 8,
     }
 }
@@ -60,6 +81,8 @@ fn push_line_reason(page: &mut Page, reason: LineReason) -> Result<(), AllocErro
         LineReason::Twice => page.push("twice"),
         LineReason::Option => page.push("option"),
         LineReason::Value => page.push("value"),
+        LineReason::Times => page.push("times"),
+        LineReason::Events => page.push("events"),
     }
 }
 
@@ -88,6 +111,44 @@ fn push_fault_line(
     page.push("\n")
 }
 
+/// Appends the line of too many events.
+fn push_events_line(page: &mut Page, start: &str, line: u32) -> Result<(), AllocError>
+    ensures { OnOk result (page.new ≡ page.old ++ events_line start.now line) }
+{
+    page.push(start)?;
+    page.push_number(line as u64)?;
+    page.push("\n")
+}
+
+/// The word of a limit.
+#[tactic(auto, unfolding(crate::specs::Endings::limit_word))]
+fn push_limit(page: &mut Page, limit: RunLimit) -> Result<(), AllocError>
+    ensures { OnOk result (page.new ≡ page.old ++ limit_word limit) }
+{
+    match limit {
+        RunLimit::Links => page.push("links"),
+        RunLimit::Entries => page.push("entries"),
+        RunLimit::Bytes => page.push("bytes"),
+    }
+}
+
+/// Appends the line of a limit that an event would pass.
+fn push_limit_line(
+    page: &mut Page,
+    start: &str,
+    limit: RunLimit,
+    middle: &str,
+    line: u32,
+) -> Result<(), AllocError>
+    ensures { OnOk result (page.new ≡ page.old ++ limit_line start.now limit middle.now line) }
+{
+    page.push(start)?;
+    push_limit(page, limit)?;
+    page.push(middle)?;
+    page.push_number(line as u64)?;
+    page.push("\n")
+}
+
 /// Appends what an ending says on the error sink; nothing where it is `Done`.
 #[tactic(auto, unfolding(crate::specs::Endings::error_line))]
 fn push_error_line(page: &mut Page, ending: Ending, file: &str) -> Result<(), AllocError>
@@ -103,10 +164,15 @@ fn push_error_line(page: &mut Page, ending: Ending, file: &str) -> Result<(), Al
             line,
             reason,
         ),
+        Ending::Events { line } => push_events_line(page, "fedrun: limit events line ", line),
         Ending::ReadFault => push_word_line(page, "fedrun: read fault ", file),
         Ending::WriteFault => page.push("fedrun: write fault\n"),
         Ending::FileTooLong => push_word_line(page, "fedrun: limit file ", file),
         Ending::Places => page.push("fedrun: limit places\n"),
+        Ending::Limit { line, limit } => {
+            push_limit_line(page, "fedrun: limit ", limit, " line ", line)
+        }
+        Ending::Report => page.push("fedrun: limit report\n"),
         Ending::Absent => push_word_line(page, "fedrun: absent ", file),
     }
 }

@@ -2,6 +2,7 @@
 ghost use Rattle.std.specs.Prelude.{◌≡◌, map, string_bytes, codes};
 ghost use Rattle.std.specs.Option.{option_copied};
 ghost use Rattle.std.specs.List.{list_any};
+ghost use Rattle.fedrun_cli.specs.Completeness.{AskedIsComplete};
 ghost use Rattle.fedrun_cli.specs.Ends.{Outside, EndsAsked};
 ghost use Rattle.fedrun_cli.specs.Endings.{Took};
 ghost use Rattle.fedrun_cli.specs.Words.{schedule_asked, is_schedule_word, begins_with_dash, is_equals_sign};
@@ -65,6 +66,10 @@ pub fn fedrun<F: Shelf, O: Sink, E: Sink, D: Door>(
     door: &mut D,
 ) -> u8
     ensures ends { EndsAsked (schedule_asked (map string_bytes words.now))
+        (record { files = F.files shelf.old; read_faults = F.faults shelf.old; out_told = O.told out.old; out_faults = O.faults out.old; err_told = E.told err.old; err_faults = E.faults err.old })
+        (record { files = F.files shelf.new; read_faults = F.faults shelf.new; out_told = O.told out.new; out_faults = O.faults out.new; err_told = E.told err.new; err_faults = E.faults err.new })
+        result }
+    ensures complete { AskedIsComplete (schedule_asked (map string_bytes words.now))
         (record { files = F.files shelf.old; read_faults = F.faults shelf.old; out_told = O.told out.old; out_faults = O.faults out.old; err_told = E.told err.old; err_faults = E.faults err.old })
         (record { files = F.files shelf.new; read_faults = F.faults shelf.new; out_told = O.told out.new; out_faults = O.faults out.new; err_told = E.told err.new; err_faults = E.faults err.new })
         result }

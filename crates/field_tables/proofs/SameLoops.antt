@@ -1,5 +1,5 @@
 -- Values and pairs one after the other, as a loop compares them.
-use Rattle.std.proofs.Common.{◌≡◌, ◌≢◌, ℕ, Bool, true, false, ◌&&◌, List, [], ◌∷◌, length, String, string_bytes, Global, refl, sym, ap, ◌∙◌, arith}
+use Rattle.std.proofs.Common.{◌≡◌, ◌≢◌, Bool, true, false, ◌&&◌, List, [], ◌∷◌, length, String, string_bytes, Global, refl, sym, ap, ◌∙◌, arith}
 use Rattle.std.specs.Str.{bytes_eq}
 use Rattle.field_tables.specs.Fields.{Field, table, Fields, Pairs}
 use Rattle.field_tables.specs.View.{fields_of, pairs_of, field_view, fields_view, pairs_view}

@@ -5,6 +5,7 @@ mod clone;
 mod fault;
 mod kind;
 mod laws;
+mod length;
 mod reading;
 mod same;
 mod value;
@@ -12,6 +13,7 @@ mod writing;
 
 pub use fault::TableFault;
 pub use laws::{tables_are_apart, values_are_apart};
+pub use length::table_len;
 pub use reading::read_table;
 pub use value::{FieldValue, Table};
 pub use writing::write_table;

@@ -65,6 +65,16 @@ fn rewritten(alloc: Global, bytes: &[u8]) -> Result<Vec<u8>, TableFault> {
     Ok(out)
 }
 
+/// What each of them has on the wire, without writing it.
+#[test]
+fn lengths(rt: HostRuntime) -> Result<(), Fail> {
+    for bytes in [BOUND_FROM.as_slice(), &SERVER, &KINDS, &[0, 0, 0, 0]] {
+        let (table, _) = read_table(rt.alloc(), bytes)?;
+        assert_eq!(rt; table_len(&table), bytes.len());
+    }
+    Ok(())
+}
+
 fn reads_back(rt: &impl Abort, alloc: Global, bytes: &[u8]) -> Result<(), Fail> {
     let out = rewritten(alloc, bytes)?;
     assert_eq!(rt; out.as_slice(), bytes);

@@ -1,8 +1,12 @@
 -- What the scanning program's values stand for.
-use Rattle.std.specs.Prelude.{Option, Some, None}
+use Rattle.std.specs.Prelude.{ℕ, Option, Some, None, refl}
+use Rattle.std.specs.Coded.{Coded, code_by, coded×, coded_ℕ}
+use Rattle.route_core.specs.Codes.{coded_routing}
+use Rattle.route_core.specs.Routing.{Routing}
 use Rattle.fed_journal.specs.Consumers as consumers
 use Rattle.fed_journal.specs.Holders as holders
 use Rattle.fed_journal.specs.Copies as copies
+use Rattle.fed_journal.specs.Routes as routes
 use Rattle.journal_scan.specs.declared.standing.Holder.{Holder}
 use Rattle.journal_scan.specs.declared.standing.Holder.TheVariants.{Session, Channel}
 use Rattle.journal_scan.specs.declared.standing.CopyState.{CopyState}
@@ -26,3 +30,7 @@ consumer_from c = record { queue = c.queue.now; no_ack = c.no_ack; prefetch = c.
 abbrev pub consumer_of : Option Subscription → Option consumers.Consumer
 consumer_of None = None
 consumer_of (Some c) = Some (consumer_from c)
+
+-- A code of what stands at a place, by which a proof tells two such apart.
+abbrev pub coded_site : Coded routes.Site
+coded_site = code_by (Routing × ℕ) (coded× coded_routing coded_ℕ) (λ s. (s.routing, s.queues)) (λ p. routes.site_of p.0 p.1) (λ _. refl)

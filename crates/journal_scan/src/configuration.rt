@@ -1,10 +1,10 @@
-//! Brokers, queues and links.
+//! Brokers, queues and exchanges.
 ghost use Rattle.std.specs.Prelude.{◌≡◌};
-ghost use Rattle.fed_journal.specs.Configuration.{is_broker, is_place, queue_options};
+ghost use Rattle.fed_journal.specs.Configuration.{is_broker, is_place, queue_options, predeclared_kind, predeclared_shape, exchange_shape};
 
+use amqp_props::{ExchangeKind, QueueOptions, Text};
 use fed_journal::entry::Entry;
-use fed_journal::place::{Place, QueueOptions};
-use fed_journal::text::Text;
+use fed_journal::place::{ExchangeShape, Place};
 
 /// Whether the run has this broker.
 pub fn is_broker(journal: &[Entry], broker: &Text) -> bool
@@ -39,6 +39,59 @@ pub fn queue_options(journal: &[Entry], place: &Place, queue: &Text) -> Option<Q
             && made == queue
         {
             last = Some(*options);
+        }
+    }
+    last
+}
+
+/// The type of the exchange, if it is one with which a virtual host begins.
+fn predeclared_kind(exchange: &Text) -> Option<ExchangeKind>
+    ensures { result ≡ predeclared_kind exchange.now }
+{
+    let name = exchange.as_str();
+    if name == "amq.direct" {
+        Some(ExchangeKind::Direct)
+    } else if name == "amq.fanout" {
+        Some(ExchangeKind::Fanout)
+    } else if name == "amq.headers" {
+        Some(ExchangeKind::Headers)
+    } else if name == "amq.match" {
+        Some(ExchangeKind::Headers)
+    } else if name == "amq.topic" {
+        Some(ExchangeKind::Topic)
+    } else {
+        None
+    }
+}
+
+/// What such an exchange is.
+fn predeclared_shape(exchange: &Text) -> Option<ExchangeShape>
+    ensures { result ≡ predeclared_shape exchange.now }
+{
+    let kind = predeclared_kind(exchange)?;
+    Some(ExchangeShape {
+        kind,
+        durable: true,
+        internal: false,
+    })
+}
+
+/// What the exchange was declared as, if it stands; the default exchange has no declaration.
+#[tactic(auto, unfolding(fed_journal::specs::Configuration::exchange_shape))]
+pub fn exchange_shape(journal: &[Entry], place: &Place, exchange: &Text) -> Option<ExchangeShape>
+    ensures { result ≡ exchange_shape journal.now place.now exchange.now }
+{
+    let mut last = predeclared_shape(exchange);
+    for entry in journal {
+        if let Entry::MadeExchange {
+            place: at,
+            exchange: made,
+            shape,
+        } = entry
+            && at == place
+            && made == exchange
+        {
+            last = Some(*shape);
         }
     }
     last

@@ -1,15 +1,15 @@
 //! Who consumes from a queue, and how many copies a consumer holds.
 ghost use Rattle.std.specs.Prelude.{◌≡◌, ◌==◌, All, IfOk, List, ℕ};
 ghost use Rattle.std.specs.List.{list_any};
-ghost use Rattle.fed_journal.specs.Copies.{IsNumbered};
+ghost use Rattle.fed_journal.specs.Copies.{IsFitting};
 ghost use Rattle.fed_journal.specs.Consumers.{is_same, consumer, consumer_step, handed_step, handed_since, is_held_for, held_count};
 ghost use Rattle.journal_scan.specs.View.{consumer_of};
 
 use crate::holds::entered;
 use crate::standing::{CopyState, is_same_client, standing};
+use amqp_props::Text;
 use fed_journal::entry::Entry;
 use fed_journal::place::{Client, Place};
-use fed_journal::text::Text;
 use std::alloc::{AllocError, Global};
 
 /// What a client asked for when it began to consume.
@@ -130,7 +130,7 @@ pub fn held_count(
     name: ConsumerName<'_>,
     queue: &Text,
 ) -> Result<usize, AllocError>
-    requires { All IsNumbered journal.now }
+    requires { All IsFitting journal.now }
     ensures { IfOk result (λ count. count ≡ held_count journal.now name.entry.place.now name.entry.client name.entry.tag.now queue.now) }
 {
     let copies = entered(alloc, journal, name.place, queue)?;

@@ -3,13 +3,14 @@ ghost use Rattle.std.specs.Prelude.{◌≡◌, ◌+◌, ◌-◌, ◌<◌, ◌^�
 ghost use Rattle.std.specs.List.{slice_get, list_any, list_all};
 ghost use Rattle.fed_journal.specs.Names.{same_text};
 ghost use Rattle.std.specs.Option.{option_copied};
-ghost use Rattle.fed_journal.specs.Copies.{entered_by, IsNumbered, enters, is_copy_of, must_be_stored, is_stored, is_released, is_gone, find_publication, publication_of, is_secured, is_lasting_at, is_lasting, must_be_stored_at, is_flushed_in, publication_in, is_copy_secured, numbers_from, flushes, is_flushed_from, must_be_stored_from};
+ghost use Rattle.fed_journal.specs.Copies.{entered_by, IsFitting, enters, is_copy_of, must_be_stored, is_stored, is_released, is_gone, find_publication, publication_of, is_secured, is_lasting_at, is_lasting, must_be_stored_at, is_flushed_in, publication_in, is_copy_secured, numbers_from, flushes, is_flushed_from, must_be_stored_from};
 
 use crate::configuration::queue_options;
 use crate::standing::{is_left, standing};
+use amqp_props::{QueueOptions, Text};
 use fed_journal::entry::{Entry, Publication};
-use fed_journal::place::{Place, QueueOptions};
-use fed_journal::text::Text;
+use fed_journal::message::is_persistent;
+use fed_journal::place::Place;
 
 /// The first place of the queue among the names.
 fn place_of(queues: &[Text], queue: &Text) -> Option<usize>
@@ -21,7 +22,7 @@ fn place_of(queues: &[Text], queue: &Text) -> Option<usize>
 
 /// The copy that the entry brought into the queue, if it is a publication that was routed there.
 pub fn entered_by(entry: &Entry, place: &Place, queue: &Text) -> Option<u64>
-    requires { IsNumbered entry.now }
+    requires { IsFitting entry.now }
     ensures { result ≡ entered_by place.now queue.now entry.now }
 {
     let Entry::Published(publication) = entry else {
@@ -82,7 +83,7 @@ pub fn is_lasting(options: Option<QueueOptions>) -> bool
 #[tactic(auto, unfolding(fed_journal::specs::Copies::find_publication))]
 pub fn find_publication(journal: &[Entry], number: u64) -> Option<&Publication>
     ensures found { option_copied result ≡ find_publication number journal.now }
-    ensures numbered { All IsNumbered journal.now → IfSome result (λ x. x.now.first + length x.now.queues < 2 ^ 64) }
+    ensures numbered { All IsFitting journal.now → IfSome result (λ x. x.now.first + length x.now.queues < 2 ^ 64) }
 {
     for entry in journal {
         if let Entry::Published(publication) = entry
@@ -161,7 +162,7 @@ pub(crate) fn queue_of(publication: &Publication, copy: u64) -> Option<&Text>
 fn must_be_stored_at(before: &[Entry], publication: &Publication, copy: u64) -> bool
     ensures { result ≡ must_be_stored_at before.now (Some publication.now) copy }
 {
-    publication.message.persistent
+    is_persistent(&publication.message)
         && is_lasting_at(before, &publication.place, queue_of(publication, copy))
 }
 
@@ -225,7 +226,7 @@ fn are_copies_secured(journal: &[Entry], first: u64, queues: &[Text]) -> bool
 /// Whether the publication is secured.
 #[tactic(auto, unfolding(fed_journal::specs::Copies::is_secured))]
 pub fn is_secured(journal: &[Entry], publication: u64) -> bool
-    requires { All IsNumbered journal.now }
+    requires { All IsFitting journal.now }
     ensures { result ≡ is_secured journal.now publication }
 {
     match find_publication(journal, publication) {

@@ -4,8 +4,8 @@ ghost use Rattle.std.specs.Option.{option_copied};
 ghost use Rattle.fed_journal.specs.Flight.{is_number, has, of_session, taken_by, sent_by, copy_published_by, published_from, published_by, confirmed_to, noted_by, settled_for, copy_from, copy_of_publication, confirmed_copy, flight_took, flight_sent, flight_published, flight_confirmed, flight_noted};
 
 use crate::copies::find_publication;
+use amqp_props::Text;
 use fed_journal::entry::{Entry, Publication, Publisher};
-use fed_journal::text::Text;
 use std::alloc::{AllocError, Global};
 
 /// Whether the number is there and is this one.

@@ -1,14 +1,14 @@
 //! Which copies are handed out, and which are ready.
 ghost use Rattle.std.specs.Prelude.{◌≡◌, All, IfOk, is_some};
-ghost use Rattle.fed_journal.specs.Copies.{IsNumbered, entered};
+ghost use Rattle.fed_journal.specs.Copies.{IsFitting, entered};
 ghost use Rattle.fed_journal.specs.Holds.{is_held, is_held_by, is_ready, first_ready, ready_count, holder_in};
 ghost use Rattle.journal_scan.specs.View.{standing_of};
 
 use crate::copies::entered_by;
 use crate::standing::{CopyState, is_waiting, standing};
+use amqp_props::Text;
 use fed_journal::entry::Entry;
 use fed_journal::place::{Client, Place};
-use fed_journal::text::Text;
 use std::alloc::{AllocError, Global};
 
 /// Whether it is a copy that is handed out and unacknowledged.
@@ -45,7 +45,7 @@ pub fn is_ready(journal: &[Entry], copy: u64) -> bool
 /// The copy that the queue would hand out now.
 #[tactic(auto, unfolding(fed_journal::specs::Holds::first_ready, fed_journal::specs::Copies::entered))]
 pub fn first_ready(journal: &[Entry], place: &Place, queue: &Text) -> Option<u64>
-    requires { All IsNumbered journal.now }
+    requires { All IsFitting journal.now }
     ensures { result ≡ first_ready journal.now place.now queue.now }
 {
     journal
@@ -62,7 +62,7 @@ pub fn entered(
     place: &Place,
     queue: &Text,
 ) -> Result<Vec<u64>, AllocError>
-    requires { All IsNumbered journal.now }
+    requires { All IsFitting journal.now }
     ensures { IfOk result (λ copies. copies.items ≡ entered journal.now place.now queue.now) }
 {
     journal
@@ -79,7 +79,7 @@ pub fn ready_count(
     place: &Place,
     queue: &Text,
 ) -> Result<usize, AllocError>
-    requires { All IsNumbered journal.now }
+    requires { All IsFitting journal.now }
     ensures { IfOk result (λ count. count ≡ ready_count journal.now place.now queue.now) }
 {
     let copies = entered(alloc, journal, place, queue)?;

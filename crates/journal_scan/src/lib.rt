@@ -8,6 +8,7 @@ pub mod flight;
 pub mod holds;
 pub mod links;
 pub mod phases;
+pub mod routing;
 pub mod standing;
 #[cfg(test)]
 mod tests;

@@ -3,12 +3,12 @@ ghost use Rattle.std.specs.Prelude.{◌≡◌, ◌++◌, IfOk, OnOk, flat_map, I
 ghost use Rattle.fed_journal.specs.Links.{place_at, place_named, start_state, spec_of, links_set_by, links_of_broker, links_of, link_of, is_shovel_set};
 
 use crate::configuration::is_place;
+use amqp_props::Text;
 use fed_journal::entry::Entry;
 use fed_journal::event::Shovel;
 use fed_journal::link::{LinkSpec, StartState};
 use fed_journal::page::shovel_link_name;
 use fed_journal::place::Place;
-use fed_journal::text::Text;
 use std::alloc::{AllocError, Global};
 
 /// The place that a URI with this host names, where it is one of the run.

@@ -2,9 +2,9 @@
 ghost use Rattle.std.specs.Prelude.{◌≡◌};
 ghost use Rattle.fed_journal.specs.Phases.{session, phase, is_open};
 
+use amqp_props::Text;
 use fed_journal::entry::Entry;
 use fed_journal::link::Phase;
-use fed_journal::text::Text;
 
 /// The number of the link's last session, 0 before the first.
 #[tactic(auto, unfolding(fed_journal::specs::Phases::session))]

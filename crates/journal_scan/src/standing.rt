@@ -7,9 +7,9 @@ ghost use Rattle.fed_journal.specs.Copies.{Ready, is_home, handed, closed, moved
 ghost use Rattle.journal_scan.specs.View.{holder_of, standing_of};
 
 use crate::copies::{is_copy_of, queue_of};
+use amqp_props::Text;
 use fed_journal::entry::{Entry, Publication};
 use fed_journal::place::{Client, Place};
-use fed_journal::text::Text;
 
 /// To whom a copy was handed.
 #[derive(Clone, Copy)]

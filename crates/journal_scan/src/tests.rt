@@ -1,5 +1,5 @@
 ghost use Rattle.std.specs.Prelude.{IfOk, All};
-ghost use Rattle.fed_journal.specs.Copies.{IsNumbered};
+ghost use Rattle.fed_journal.specs.Copies.{IsFitting};
 ghost use Rattle.fed_journal.specs.declared.entry.Entry.TheVariants.{Published};
 
 use crate::configuration::{is_broker, is_place, queue_options};
@@ -12,10 +12,11 @@ use crate::holds::{entered, first_ready, is_held, is_held_by, is_ready, ready_co
 use crate::links::{is_shovel_set, link_of, links_of};
 use crate::phases::{is_open, session};
 use crate::standing::{CopyState, standing};
+use amqp_props::{Message, Octets, QueueOptions, Text};
 use fed_journal::entry::{Entry, Publication, Publisher};
-use fed_journal::message::Message;
-use fed_journal::place::{Client, Place, QueueOptions};
-use fed_journal::text::{Names, Octets, Text};
+use fed_journal::message::properties;
+use fed_journal::place::{Client, Place};
+use fed_journal::text::Names;
 use std::alloc::{AllocError, Global};
 use std::test::Fail;
 
@@ -27,7 +28,7 @@ fn place(alloc: Global) -> Result<Place, AllocError> {
 }
 
 fn made(alloc: Global) -> Result<Entry, AllocError>
-    ensures { IfOk result (λ entry. IsNumbered entry) }
+    ensures { IfOk result (λ entry. IsFitting entry) }
 {
     Ok(Entry::MadeQueue {
         place: place(alloc)?,
@@ -49,15 +50,15 @@ fn begun(alloc: Global) -> Result<Entry, AllocError> {
 }
 
 fn publication(alloc: Global) -> Result<Publication, AllocError>
-    ensures { IfOk result (λ publication. IsNumbered (Published publication)) }
+    ensures { IfOk result (λ publication. IsFitting (Published publication)) }
 {
     let mut queues = Vec::new(alloc);
     queues.push(Text::from_str(alloc, "q")?)?;
     let message = Message {
         exchange: Text::from_str(alloc, "")?,
         key: Text::from_str(alloc, "q")?,
-        persistent: true,
-        body: Octets::new(Vec::new(alloc)),
+        props: properties(true, None),
+        body: Octets::new(alloc, Vec::new(alloc))?,
     };
     Ok(Publication {
         place: place(alloc)?,
@@ -94,7 +95,7 @@ fn client() -> Client {
 }
 
 fn consumed(alloc: Global) -> Result<Entry, AllocError>
-    ensures { IfOk result (λ entry. IsNumbered entry) }
+    ensures { IfOk result (λ entry. IsFitting entry) }
 {
     Ok(Entry::Consumed {
         place: place(alloc)?,
@@ -107,7 +108,7 @@ fn consumed(alloc: Global) -> Result<Entry, AllocError>
 }
 
 fn delivered(alloc: Global) -> Result<Entry, AllocError>
-    ensures { IfOk result (λ entry. IsNumbered entry) }
+    ensures { IfOk result (λ entry. IsFitting entry) }
 {
     Ok(Entry::Delivered {
         place: place(alloc)?,
@@ -127,7 +128,7 @@ fn with_queue(alloc: Global) -> Result<Vec<Entry>, AllocError> {
 }
 
 fn with_publication(alloc: Global) -> Result<Vec<Entry>, AllocError>
-    ensures { IfOk result (λ journal. All IsNumbered journal.items) }
+    ensures { IfOk result (λ journal. All IsFitting journal.items) }
 {
     let mut journal = Vec::new(alloc);
     journal.push(made(alloc)?)?;
@@ -136,7 +137,7 @@ fn with_publication(alloc: Global) -> Result<Vec<Entry>, AllocError>
 }
 
 fn with_consumer(alloc: Global) -> Result<Vec<Entry>, AllocError>
-    ensures { IfOk result (λ journal. All IsNumbered journal.items) }
+    ensures { IfOk result (λ journal. All IsFitting journal.items) }
 {
     let mut journal = Vec::new(alloc);
     journal.push(Entry::Published(publication(alloc)?))?;

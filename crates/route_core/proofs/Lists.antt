@@ -1,5 +1,5 @@
 -- What is left of a list from an index on, and the places in a filtered list.
-use Rattle.std.proofs.Common.{◌≡◌, ℕ, zero, suc, ◌+◌, ◌<◌, ◌≤◌, Bool, true, false, cond, List, [], ◌∷◌, Some, None, Option, ◌++◌, length, take, drop, get_or, refl, ap, sym, ◌∙◌, arith}
+use Rattle.std.proofs.Common.{◌≡◌, ℕ, zero, suc, ◌+◌, ◌<◌, ◌≤◌, Bool, true, false, cond, List, [], ◌∷◌, Some, None, Option, ◌++◌, length, take, drop, get_or, refl, ap, sym, ◌∙◌, subst, arith}
 use Rattle.std.proofs.lemmas.Bool.{true≢false, false≢true}
 use Rattle.std.specs.Prelude.{filter, slice_get, All}
 use Rattle.std.specs.List.{filter_map, cons_option, Contains, AllPairs}
@@ -61,6 +61,25 @@ filter_less_at p q f (y ∷ ys) (suc k) x lt e off on =
 
 pub filter_less : {X : Type 0} (p q : X → Bool) → ((x : X) → p x ≡ true → q x ≡ true) → (xs : List X) (x : X) → Contains xs x → p x ≡ false → q x ≡ true → length (filter p xs) + 1 ≤ length (filter q xs)
 filter_less p q f xs x c off on = filter_less_at p q f xs c.0 x c.1 c.2 off on
+
+-- ---- an item that passes is kept
+
+kept_here : {X : Type 0} (x : X) (ys : List X) (t : Bool) → t ≡ true → Contains (cond t (x ∷ ys) ys) x
+kept_here x ys true h = (0, omega arith, refl)
+kept_here x ys false h = absurd (false≢true h)
+
+kept_there : {X : Type 0} (z : X) (ys : List X) (t : Bool) (x : X) → Contains ys x → Contains (cond t (z ∷ ys) ys) x
+kept_there z ys true x c = (suc c.0, omega (arith, c.1), c.2)
+kept_there z ys false x c = c
+
+kept_at : {X : Type 0} (test : X → Bool) (xs : List X) (k : ℕ) (x : X) → k < length xs → get_or xs k x ≡ x → test x ≡ true → Contains (filter test xs) x
+kept_at test [] k x lt e on = absurd (omega arith)
+kept_at {X} test (z ∷ xs) zero x lt e on =
+    subst (λ (y : X). Contains (filter test (z ∷ xs)) y) e (kept_here z (filter test xs) (test z) (ap test e ∙ on))
+kept_at test (z ∷ xs) (suc k) x lt e on = kept_there z (filter test xs) (test z) x (kept_at test xs k x (omega arith) e on)
+
+pub Contains-filter : {X : Type 0} (test : X → Bool) (xs : List X) (x : X) → Contains xs x → test x ≡ true → Contains (filter test xs) x
+Contains-filter test xs x c on = kept_at test xs c.0 x c.1 c.2 on
 
 -- ---- what `filter_map` gives
 

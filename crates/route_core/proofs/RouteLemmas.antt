@@ -1,10 +1,9 @@
 -- From what is reached to the routes of a message.
-use Rattle.std.proofs.Common.{◌≡◌, ◌≢◌, ℕ, ◌<◌, ◌≤◌, ◌++◌, ◌⊎◌, inl, inr, Bool, true, false, cond, not, ◌&&◌, List, [], ◌∷◌, Option, Some, None, refl, ap, sym, ◌∙◌, subst, arith}
+use Rattle.std.proofs.Common.{◌≡◌, ◌≢◌, ℕ, ◌<◌, ◌≤◌, ◌++◌, inl, inr, Bool, true, false, cond, not, ◌&&◌, List, [], ◌∷◌, Option, Some, None, refl, ap, sym, ◌∙◌, subst, arith}
 use Rattle.std.specs.Prelude.{All, nat_lt, max}
 use Rattle.std.specs.List.{Contains, Any, AllPairs, filter_map}
 use Rattle.std.proofs.lemmas.Bool.{true≢false, false≢true, and_parts, ltb-true, cases_lt}
 use Rattle.std.proofs.lemmas.List.Elements.{All-nil, All-push, All-weaker, All-contains, All-contains_itself}
-use Rattle.route_core.specs.declared.object.Sort.{Sort}
 use Rattle.route_core.specs.declared.object.Sort.TheVariants as sorts
 use Rattle.route_core.specs.declared.object.Node.{Node}
 use Rattle.route_core.specs.declared.object.Node.TheVariants as nodes
@@ -12,8 +11,8 @@ use Rattle.route_core.specs.declared.object.Object.{Object}
 use Rattle.route_core.specs.declared.binding.Binding.{Binding}
 use Rattle.route_core.specs.Objects.{sort_of, number_of, is_named, is_after, rises}
 use Rattle.route_core.specs.Routing.{Routing, object_named}
-use Rattle.route_core.specs.Walks.{Publish, Stop, stop, exchange_stop, queue_stop, source_of, Matches, IsReached, Reaches, by_name, by_walk, IsQueue, AreRoutes, IsPassed, IsWalkLimit, is_reserved}
-use Rattle.route_core.specs.Spreading.{is_among, AreStops, number_at, GateAt, IsGate}
+use Rattle.route_core.specs.Walks.{Publish, Stop, queue_stop, IsReached, Reaches, by_name, by_walk, IsQueue, AreRoutes, IsWalkLimit, is_reserved}
+use Rattle.route_core.specs.Spreading.{is_among, AreStops, number_at, GateAt}
 use Rattle.route_core.proofs.Lists.{All-filter_map, Contains-filter_map, rising-filter_map}
 use Rattle.route_core.proofs.StopLemmas.{among_all, among_last, stop_is}
 
@@ -66,7 +65,7 @@ routes_from r p stops order sound whole = record {
   rising = rising-filter_map (λ earlier later. is_after earlier later ≡ true) (number_at stops) (numbers_rise stops) r.objects order;
 }
 
-walked : (r : Routing) (p : Publish) (stops : List Stop) → p.exchange ≢ [] → AreStops r p stops → (name : List ℕ) → Reaches r p name → is_among stops sorts.Queue name ≡ true
+pub walked : (r : Routing) (p : Publish) (stops : List Stop) → p.exchange ≢ [] → AreStops r p stops → (name : List ℕ) → Reaches r p name → is_among stops sorts.Queue name ≡ true
 walked r p stops other h name (by_name e k f) = absurd (other e)
 walked r p stops other h name (by_walk e reached) = h.whole sorts.Queue name reached
 
@@ -80,14 +79,14 @@ routes_walked r p stops order other h =
 abbrev pub named_stops : Publish → List Stop
 named_stops p = cond (is_reserved p.key) [] (queue_stop p.key ∷ [])
 
-named_sound : (r : Routing) (p : Publish) (b : Bool) → is_reserved p.key ≡ b → p.exchange ≡ [] → (name : List ℕ) → is_among (cond b [] (queue_stop p.key ∷ [])) sorts.Queue name ≡ true → Reaches r p name
+pub named_sound : (r : Routing) (p : Publish) (b : Bool) → is_reserved p.key ≡ b → p.exchange ≡ [] → (name : List ℕ) → is_among (cond b [] (queue_stop p.key ∷ [])) sorts.Queue name ≡ true → Reaches r p name
 named_sound r p true e d name h = absurd (false≢true h)
 named_sound r p false e d name h =
     let same : queue_stop p.key ≡ queue_stop name = stop_is p.key name h in
     let key : p.key ≡ name = ap (λ (s : Stop). s.name) same in
     by_name d key (subst (λ (n : List ℕ). is_reserved n ≡ false) key e)
 
-named_whole : (r : Routing) (p : Publish) (b : Bool) → is_reserved p.key ≡ b → p.exchange ≡ [] → (name : List ℕ) → Reaches r p name → is_among (cond b [] (queue_stop p.key ∷ [])) sorts.Queue name ≡ true
+pub named_whole : (r : Routing) (p : Publish) (b : Bool) → is_reserved p.key ≡ b → p.exchange ≡ [] → (name : List ℕ) → Reaches r p name → is_among (cond b [] (queue_stop p.key ∷ [])) sorts.Queue name ≡ true
 named_whole r p b e d name (by_walk other reached) = absurd (other d)
 named_whole r p true e d name (by_name d' key off) =
     absurd (true≢false (sym e ∙ ap is_reserved key ∙ off))

@@ -1,36 +1,25 @@
 -- What holds of the search for routes.
-use Rattle.std.proofs.Common.{◌≡◌, ◌≢◌, ℕ, ◌+◌, ◌-◌, ◌<◌, ◌≤◌, ◌⊎◌, inl, inr, Bool, true, false, cond, not, ◌&&◌, ◌||◌, List, [], ◌∷◌, ◌++◌, Option, Some, None, length, take, get_or, refl, ap, sym, ◌∙◌, subst, arith, length-append, append_assoc, append-nil}
-use Rattle.std.specs.Prelude.{All, filter}
-use Rattle.std.specs.List.{list_any, Contains, Any, AllPairs, filter_map}
+use Rattle.std.proofs.Common.{◌≡◌, ℕ, ◌+◌, ◌-◌, ◌<◌, ◌≤◌, inl, inr, true, false, not, List, [], ◌∷◌, ◌++◌, Some, None, length, take, get_or, refl, ap, sym, ◌∙◌, subst, arith, length-append, append_assoc, append-nil}
+use Rattle.std.specs.Prelude.{All}
+use Rattle.std.specs.List.{Contains}
 use Rattle.std.specs.Str.{bytes_eq}
-use Rattle.std.proofs.lemmas.Bool.{true≢false, false≢true, or_cases, or_left, or_right, and_parts, and_from, not-true, not_from_false, not_from_true}
-use Rattle.std.proofs.lemmas.List.Elements.{All-nil, All-cons, All-head, All-tail, All-weaker, All-push, All-contains, All-contains_itself, All-get_or}
+use Rattle.std.proofs.lemmas.Bool.{false≢true, or_cases, or_left, or_right, and_parts, and_from}
+use Rattle.std.proofs.lemmas.List.Elements.{All-nil, All-cons, All-head, All-tail, All-weaker, All-push, All-contains, All-get_or}
 use Rattle.std.proofs.lemmas.List.{take_more, take_all, take-append-le}
 use Rattle.std.proofs.lemmas.List.Folds.{list_any-append}
 use Rattle.std.proofs.lemmas.Slice.Eq.{bytes_eq-Decides}
 use Rattle.route_core.specs.declared.object.Sort.{Sort}
 use Rattle.route_core.specs.declared.object.Sort.TheVariants as sorts
-use Rattle.route_core.specs.declared.object.Node.{Node}
-use Rattle.route_core.specs.declared.object.Node.TheVariants as nodes
 use Rattle.route_core.specs.declared.object.Object.{Object}
 use Rattle.route_core.specs.declared.binding.Binding.{Binding}
-use Rattle.route_core.specs.Objects.{same_sort, sort_of, number_of, is_named, is_after, rises}
-use Rattle.route_core.specs.Routing.{Routing, object_named}
-use Rattle.route_core.specs.Walks.{Publish, Stop, stop, exchange_stop, queue_stop, source_of, dest_of, exchange_node, Matches, IsWalk, IsReached, Reaches, by_name, by_walk, IsQueue, AreRoutes, IsPassed, IsWalkLimit, is_reserved}
-use Rattle.route_core.specs.Spreading.{is_at, is_among, left, IsFollowed, LeadsOn, Spreads, AreStops, exchange_of, exchange_by, number_at, GateAt, IsGate}
-use Rattle.route_core.proofs.Lists.{filter_le, filter_less, All-filter_map, Contains-filter_map, rising-filter_map}
+use Rattle.route_core.specs.Objects.{same_sort}
+use Rattle.route_core.specs.SameBindings.{sort_yes, sort_self}
+use Rattle.route_core.specs.Routing.{Routing}
+use Rattle.route_core.specs.Walks.{Publish, Stop, stop, exchange_stop, queue_stop, source_of, dest_of, Matches, IsWalk, IsReached}
+use Rattle.route_core.specs.Spreading.{is_at, is_among, left, IsFollowed, LeadsOn, Spreads, AreStops, exchange_of, exchange_by}
+use Rattle.route_core.proofs.Lists.{filter_less}
 
 -- ---- stops by their names
-
-same_sort_is : (a b : Sort) → same_sort a b ≡ true → a ≡ b
-same_sort_is sorts.Queue sorts.Queue h = refl
-same_sort_is sorts.Queue sorts.Exchange h = absurd (false≢true h)
-same_sort_is sorts.Exchange sorts.Queue h = absurd (false≢true h)
-same_sort_is sorts.Exchange sorts.Exchange h = refl
-
-same_sort_self : (a : Sort) → same_sort a a ≡ true
-same_sort_self sorts.Queue = refl
-same_sort_self sorts.Exchange = refl
 
 bytes_self : (x : List ℕ) → bytes_eq x x ≡ true
 bytes_self x = (bytes_eq-Decides x x).1 refl
@@ -38,7 +27,7 @@ bytes_self x = (bytes_eq-Decides x x).1 refl
 at_is : (sort : Sort) (name : List ℕ) (s : Stop) → is_at sort name s ≡ true → s ≡ stop sort name
 at_is sort name s h =
     let t = and_parts (same_sort s.sort sort) (bytes_eq s.name name) h in
-    let e = same_sort_is s.sort sort t.0 in
+    let e = sort_yes s.sort sort t.0 in
     let f = (bytes_eq-Decides s.name name).0 t.1 in
     λ i. stop (e i) (f i)
 
@@ -47,8 +36,8 @@ pub stop_is : (own name : List ℕ) → is_among (queue_stop own ∷ []) sorts.Q
 stop_is own name h =
     elim (or_cases (is_at sorts.Queue name (queue_stop own)) false h) [ inl e ↦ at_is sorts.Queue name (queue_stop own) e | inr e ↦ absurd (false≢true e) ]
 
-at_self : (sort : Sort) (name : List ℕ) → is_at sort name (stop sort name) ≡ true
-at_self sort name = and_from (same_sort sort sort) (bytes_eq name name) (same_sort_self sort) (bytes_self name)
+pub at_self : (sort : Sort) (name : List ℕ) → is_at sort name (stop sort name) ≡ true
+at_self sort name = and_from (same_sort sort sort) (bytes_eq name name) (sort_self sort) (bytes_self name)
 
 -- what holds of each stop holds of the one that is found
 pub among_all : (P : Stop → Type 0) (stops : List Stop) (sort : Sort) (name : List ℕ) → All P stops → is_among stops sort name ≡ true → P (stop sort name)

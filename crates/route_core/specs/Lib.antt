@@ -1,7 +1,10 @@
 pub mod Bindings
 pub mod Codes
 pub mod Inside
+pub mod Laws
 pub mod Objects
+pub mod Routes
 pub mod Routing
+pub mod SameBindings
 pub mod Spreading
 pub mod Walks

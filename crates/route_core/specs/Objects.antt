@@ -1,5 +1,5 @@
 -- Queues and exchanges under their names (AMQP 0-9-1, 3.1.1 "The Message Queue" and 3.1.2 "The Exchange").
-use Rattle.std.specs.Prelude.{ℕ, Bool, true, false, not, ◌&&◌, nat_lt, List, [], Option, Some, None}
+use Rattle.std.specs.Prelude.{ℕ, Bool, true, false, not, ◌&&◌, nat_lt, List, Option, Some, None}
 use Rattle.std.specs.List.{list_any}
 use Rattle.std.specs.Str.{bytes_eq}
 use Rattle.route_core.specs.declared.object.Sort.{Sort}

@@ -1,7 +1,5 @@
 -- The exchanges, queues and bindings of a virtual host (AMQP 0-9-1, 3.1 "The AMQ model").
-use Rattle.std.specs.Prelude.{ℕ, Bool, true, false, not, ◌||◌, ◌&&◌, ◌≡◌, All, List, [], ◌∷◌, ◌++◌, Option, filter, codes, slice_get}
-use Rattle.std.specs.List.{starts_with}
-use Rattle.std.specs.Option.{option_map}
+use Rattle.std.specs.Prelude.{ℕ, Bool, true, not, ◌||◌, ◌&&◌, ◌≡◌, All, List, [], ◌∷◌, ◌++◌, filter, codes}
 use Rattle.std.specs.Str.{bytes_eq}
 use Rattle.field_tables.specs.Fields.{Pairs}
 use Rattle.amqp_props.specs.declared.link.ExchangeKind.TheVariants as kinds
@@ -11,7 +9,7 @@ use Rattle.route_core.specs.declared.object.Node.{Node}
 use Rattle.route_core.specs.declared.object.Node.TheVariants as nodes
 use Rattle.route_core.specs.declared.object.Object.{Object}
 use Rattle.route_core.specs.declared.binding.Binding.{Binding}
-use Rattle.route_core.specs.Objects.{same_sort, sort_of, is_named, has, number_of, rises}
+use Rattle.route_core.specs.Objects.{same_sort, is_named, has, number_of, rises}
 use Rattle.route_core.specs.Bindings.{is_same, leaves, ends_with}
 
 -- Queues and exchanges in the order of their making, and bindings in the order of binding.

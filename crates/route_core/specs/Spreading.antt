@@ -1,6 +1,6 @@
 -- How the search for routes goes on: what has been reached, and what is left to look at.
-use Rattle.std.specs.Prelude.{◌≡◌, ℕ, ◌+◌, ◌≤◌, Bool, true, false, not, ◌&&◌, List, [], ◌∷◌, ◌++◌, Option, Some, None, All, length, filter, if◌then◌else◌}
-use Rattle.std.specs.List.{list_any, Contains}
+use Rattle.std.specs.Prelude.{◌≡◌, ℕ, ◌+◌, ◌≤◌, Bool, true, false, not, ◌&&◌, List, ◌++◌, Option, Some, None, All, length, filter, if◌then◌else◌}
+use Rattle.std.specs.List.{list_any}
 use Rattle.std.specs.Str.{bytes_eq}
 use Rattle.route_core.specs.declared.object.Sort.{Sort}
 use Rattle.route_core.specs.declared.object.Sort.TheVariants as sorts
@@ -10,7 +10,7 @@ use Rattle.route_core.specs.declared.object.Object.{Object}
 use Rattle.route_core.specs.declared.binding.Binding.{Binding}
 use Rattle.route_core.specs.Objects.{same_sort, number_of, sort_of}
 use Rattle.route_core.specs.Routing.{Routing}
-use Rattle.route_core.specs.Walks.{Publish, Stop, stop, source_of, dest_of, exchange_node, Matches, IsReached, Reaches, queue_stop}
+use Rattle.route_core.specs.Walks.{Publish, Stop, stop, source_of, exchange_node, Matches, IsReached}
 
 abbrev pub is_at : Sort → List ℕ → Stop → Bool
 is_at sort name s = same_sort s.sort sort && bytes_eq s.name name
@@ -43,6 +43,10 @@ pub record AreStops (r : Routing) (p : Publish) (stops : List Stop) : Type 0 whe
 -- the number of a queue that is reached
 abbrev pub number_at : List Stop → Object → Option ℕ
 number_at stops o = if is_among stops (sort_of o.node) o.name then number_of o.node else None
+
+-- a queue that is reached
+abbrev pub is_queue_at : List Stop → Object → Bool
+is_queue_at stops o = same_sort (sort_of o.node) sorts.Queue && is_among stops sorts.Queue o.name
 
 abbrev pub exchange_by : Sort → List ℕ → Option (List ℕ)
 exchange_by sorts.Queue name = None

@@ -1,5 +1,5 @@
 -- The queues that a message reaches: over exchanges and the bindings that match (AMQP 0-9-1, 3.1.3 "Exchange Types" and 3.1.4 "The Binding"; RabbitMQ's "Exchange to Exchange Bindings" and "Federated Exchanges").
-use Rattle.std.specs.Prelude.{◌≡◌, ◌≢◌, ℕ, ◌<◌, ◌≤◌, Bool, true, false, List, [], ◌∷◌, ◌⊎◌, Option, Some, None, All, find, codes}
+use Rattle.std.specs.Prelude.{◌≡◌, ◌≢◌, ℕ, ◌<◌, ◌≤◌, Bool, false, List, [], ◌∷◌, Option, Some, All, find, codes}
 use Rattle.std.specs.List.{AllPairs, Contains, starts_with}
 use Rattle.std.specs.Prelude.{nat_eq}
 use Rattle.std.specs.Option.{option_map}

@@ -1,9 +1,11 @@
 //! Bindings.
 
-ghost use Rattle.std.specs.Prelude.{◌≡◌, ◌≤◌, not, filter, slice_get, vec_len, vec_capacity};
+ghost use Rattle.std.specs.Prelude.{◌≡◌, ◌↔◌, IsTrue, ◌≤◌, not, filter, slice_get, vec_len, vec_capacity};
+ghost use Rattle.std.specs.Cmp.{partial_equiv_from_equiv};
 ghost use Rattle.std.specs.Option.{option_copied};
 ghost use Rattle.field_tables.specs.View.{table_view};
 ghost use Rattle.route_core.specs.Bindings.{binding_of, is_same as is_same_binding, leaves as binding_leaves, ends_with as binding_ends_with, has_binding as has_same};
+ghost use Rattle.route_core.specs.SameBindings.{binding_laws};
 
 use crate::object::{Sort, same_sort};
 use amqp_props::{FieldTable, Text};
@@ -23,6 +25,41 @@ pub struct Binding {
     pub key: Text,
     /// Its arguments.
     pub args: FieldTable,
+}
+
+impl Clone for Binding {
+    ghost is_clone = { λ binding copy. copy ≡ binding };
+
+    fn clone(&self) -> Result<Self, AllocError> {
+        let source = self.source.clone()?;
+        let dest = self.dest.clone()?;
+        let key = self.key.clone()?;
+        let args = self.args.clone()?;
+        Ok(Binding {
+            source,
+            sort: self.sort,
+            dest,
+            key,
+            args,
+        })
+    }
+}
+
+impl PartialEq for Binding {
+    ghost eq = { is_same_binding };
+
+    ghost laws = { partial_equiv_from_equiv binding_laws };
+
+    fn eq(&self, other: &Binding) -> bool
+        ensures tested { result ≡ is_same_binding self.now other.now }
+        ensures same { IsTrue result ↔ (self.now ≡ other.now) }
+    {
+        is_same(other, self.as_asked())
+    }
+}
+
+impl Eq for Binding {
+    ghost laws = { binding_laws };
 }
 
 /// The parts of a binding that is asked for.

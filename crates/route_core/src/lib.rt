@@ -3,6 +3,7 @@
 
 mod binding;
 mod fault;
+mod laws;
 mod object;
 mod router;
 mod routes;
@@ -11,6 +12,7 @@ mod walking;
 
 pub use binding::Binding;
 pub use fault::RouteFault;
+pub use laws::rounds_are_walks;
 pub use object::{Node, Object, QueueNo, Sort};
 pub use router::Router;
 

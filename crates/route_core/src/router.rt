@@ -1,6 +1,6 @@
 //! The router of a virtual host.
 
-ghost use Rattle.std.specs.Prelude.{◌≡◌, ◌↔◌, ◌-◌, ◌+◌, ◌<◌, [], true, false, not, IfOk, OnOk, OnErr, max, slice_get, string_bytes};
+ghost use Rattle.std.specs.Prelude.{◌≡◌, ◌↔◌, ◌-◌, ◌+◌, ◌<◌, ◌≤◌, [], true, false, not, IfOk, OnOk, OnErr, length, max, slice_get, string_bytes};
 ghost use Rattle.std.specs.Option.{option_map};
 ghost use Rattle.field_tables.specs.View.{table_view};
 ghost use Rattle.route_core.specs.declared.object.Sort.TheVariants as sorts;
@@ -8,11 +8,12 @@ ghost use Rattle.route_core.specs.Objects.{has as has_object, sort_of};
 ghost use Rattle.route_core.specs.Bindings.{binding_of, has_binding as has_same};
 ghost use Rattle.route_core.specs.Routing.{predeclared as predeclared_exchanges, stands, IsNext, with_object, without_object, with_binding, without_binding, bindings_from, key_and_arguments};
 ghost use Rattle.route_core.specs.Walks.{publish, AreRoutes, IsWalkLimit};
+ghost use Rattle.route_core.specs.Routes.{routed_names, routed_numbers};
 
 use crate::binding::{Asked, Binding, binding_at, has_binding, remove_binding, remove_ends};
 use crate::fault::RouteFault;
 use crate::object::{Node, Object, QueueNo, Sort, has, predeclared, remove_object};
-use crate::routes::{named, walked};
+use crate::routes::{named, names_named, names_walked, walked};
 use crate::walking::Publication;
 use amqp_props::{FieldTable, Text};
 use field_tables::Table;
@@ -94,6 +95,20 @@ impl Router {
         remove_object(&mut self.objects, sort, name);
         remove_ends(&mut self.bindings, sort, name);
         true
+    }
+
+    /// Whether a queue or an exchange of that name stands; the default exchange is not among them.
+    pub fn has(&self, sort: Sort, name: &str) -> bool
+        ensures { result ≡ has_object sort name.now self.now.routing.objects }
+    {
+        has(&self.objects, sort, name)
+    }
+
+    /// Whether an equal binding stands.
+    pub fn has_binding(&self, binding: &Binding) -> bool
+        ensures { result ≡ has_same binding.now self.now.routing.bindings }
+    {
+        has_binding(&self.bindings, binding.as_asked())
     }
 
     /// Binds a queue or an exchange to an exchange; false exactly where an equal binding stands.
@@ -252,6 +267,7 @@ impl Router {
     ) -> Result<(Vec<QueueNo>, u32), RouteFault>
         ensures no_exchange { (result ≡ Err RouteFault.NoExchange) ↔ (stands sorts.Exchange exchange.now self.now.routing ≡ false) }
         ensures routes { IfOk result (λ answer. AreRoutes self.now.routing (publish exchange.now key.now (table_view headers.now)) answer.0.items) }
+        ensures numbers { IfOk result (λ answer. answer.0.items ≡ routed_numbers self.now.routing (publish exchange.now key.now (table_view headers.now))) }
         ensures limit { IfOk result (λ answer. IsWalkLimit self.now.routing (publish exchange.now key.now (table_view headers.now)) answer.1) }
     {
         let publication = Publication {
@@ -268,6 +284,35 @@ impl Router {
             return Err(RouteFault::NoExchange);
         }
         Ok(walked(alloc, &self.objects, &self.bindings, publication)?)
+    }
+
+    /// The names of the queues that a message reaches, in the order of their making; none where there is no such
+    /// exchange.
+    ///
+    /// # Errors
+    ///
+    /// For want of memory.
+    pub fn names(&self, exchange: &str, key: &str, headers: &Table) -> Result<Vec<Text>, AllocError>
+        ensures names { IfOk result (λ names. names.items ≡ routed_names self.now.routing (publish exchange.now key.now (table_view headers.now))) }
+        ensures few { IfOk result (λ names. length names.items ≤ length self.now.routing.objects) }
+    {
+        let publication = Publication {
+            exchange,
+            key,
+            headers,
+        };
+        let alloc = *self.objects.allocator();
+        if exchange.is_empty() {
+            return Ok(names_named(alloc, &self.objects, publication)?);
+        }
+        Ok(names_walked(alloc, &self.objects, &self.bindings, publication)?)
+    }
+
+    /// The bindings, in the order of binding.
+    pub fn bindings(&self) -> &[Binding]
+        ensures { result.now ≡ self.now.routing.bindings }
+    {
+        self.bindings.as_slice()
     }
 
     /// The routing key and the arguments of the binding at that place among those from the exchange, in the order of

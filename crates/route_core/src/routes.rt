@@ -1,17 +1,19 @@
 //! The queues of a message, and the greatest limit of the gates that it passes.
 
-ghost use Rattle.std.specs.Prelude.{◌≡◌, ◌≢◌, ◌<◌, ◌≤◌, ℕ, List, [], true, All, IfOk};
+ghost use Rattle.std.specs.Prelude.{◌≡◌, ◌≢◌, ◌<◌, ◌≤◌, ℕ, List, [], true, All, IfOk, filter, map};
 ghost use Rattle.std.specs.List.{filter_map, AllPairs, Any};
 ghost use Rattle.field_tables.specs.View.{table_view};
 ghost use Rattle.route_core.specs.declared.binding.Binding.{Binding as SpecBinding};
 ghost use Rattle.route_core.specs.Objects.{is_after, number_of as number_of_node};
 ghost use Rattle.route_core.specs.Walks.{publish, Reaches, AreRoutes, IsWalkLimit};
-ghost use Rattle.route_core.specs.Spreading.{number_at as number_at_stops, gate_limit as gate_limit_of, AreStops, IsGate, GateAt};
+ghost use Rattle.route_core.specs.Routes.{routed_names, routed_numbers};
+ghost use Rattle.route_core.specs.Spreading.{number_at as number_at_stops, is_queue_at, gate_limit as gate_limit_of, AreStops, IsGate, GateAt};
 
 use crate::binding::Binding;
-use crate::object::{Node, Object, QueueNo, Sort, sort_of};
+use crate::object::{Node, Object, QueueNo, Sort, same_sort, sort_of};
 use crate::taking::{exchange_node, matches};
 use crate::walking::{Publication, Reached, is_among, reach, reach_named};
+use amqp_props::Text;
 use std::alloc::{AllocError, Global};
 
 fn number_of(node: &Node) -> Option<QueueNo>
@@ -44,6 +46,27 @@ fn numbers_of(
         .iter()
         .filter_map(|object| number_at(stops, object))
         .collect(alloc)
+}
+
+/// Whether the object is a queue that is reached.
+fn is_queue_among(stops: &[Reached], object: &Object) -> bool
+    ensures { result ≡ is_queue_at stops.now object.now }
+{
+    same_sort(sort_of(&object.node), Sort::Queue)
+        && is_among(stops, Sort::Queue, object.name.as_str())
+}
+
+fn names_of(alloc: Global, objects: &[Object], stops: &[Reached]) -> Result<Vec<Text>, AllocError>
+    ensures { IfOk result (λ names. names.items ≡ map (λ o. o.name) (filter (is_queue_at stops.now) objects.now)) }
+{
+    let mut names = Vec::new(alloc);
+    for object in objects {
+        if is_queue_among(stops, object) {
+            let name = object.name.clone()?;
+            names.push(name)?;
+        }
+    }
+    Ok(names)
 }
 
 /// The limit of the gate that the binding leaves, if it does and the message passes there.
@@ -101,6 +124,7 @@ pub(crate) fn walked(
     requires named { publication.exchange.now ≢ [] }
     requires order { AllPairs (λ earlier later. is_after earlier later ≡ true) objects.now }
     ensures routes { IfOk result (λ answer. AreRoutes (record { objects = objects.now; bindings = bindings.now }) (publish publication.entry.exchange.now publication.entry.key.now (table_view publication.entry.headers.now)) answer.0.items) }
+    ensures numbers { IfOk result (λ answer. answer.0.items ≡ routed_numbers (record { objects = objects.now; bindings = bindings.now }) (publish publication.entry.exchange.now publication.entry.key.now (table_view publication.entry.headers.now))) }
     ensures limit { IfOk result (λ answer. IsWalkLimit (record { objects = objects.now; bindings = bindings.now }) (publish publication.entry.exchange.now publication.entry.key.now (table_view publication.entry.headers.now)) answer.1) }
 {
     let stops = reach(alloc, objects, bindings, publication)?;
@@ -117,9 +141,39 @@ pub(crate) fn named(
 ) -> Result<Vec<QueueNo>, AllocError>
     requires default { publication.exchange.now ≡ [] }
     requires order { AllPairs (λ earlier later. is_after earlier later ≡ true) objects.now }
-    ensures { IfOk result (λ numbers. (others : List SpecBinding) → AreRoutes (record { objects = objects.now; bindings = others }) (publish publication.entry.exchange.now publication.entry.key.now (table_view publication.entry.headers.now)) numbers.items) }
+    ensures routes { IfOk result (λ numbers. (others : List SpecBinding) → AreRoutes (record { objects = objects.now; bindings = others }) (publish publication.entry.exchange.now publication.entry.key.now (table_view publication.entry.headers.now)) numbers.items) }
+    ensures numbers { IfOk result (λ numbers. (others : List SpecBinding) → numbers.items ≡ routed_numbers (record { objects = objects.now; bindings = others }) (publish publication.entry.exchange.now publication.entry.key.now (table_view publication.entry.headers.now))) }
 {
     let stops = reach_named(alloc, publication)?;
     let numbers = numbers_of(alloc, objects, &stops)?;
     Ok(numbers)
+}
+
+/// The names of the queues to which walks lead from an exchange other than the default one.
+pub(crate) fn names_walked(
+    alloc: Global,
+    objects: &[Object],
+    bindings: &[Binding],
+    publication: Publication,
+) -> Result<Vec<Text>, AllocError>
+    requires named { publication.exchange.now ≢ [] }
+    ensures { IfOk result (λ names. names.items ≡ routed_names (record { objects = objects.now; bindings = bindings.now }) (publish publication.entry.exchange.now publication.entry.key.now (table_view publication.entry.headers.now))) }
+{
+    let stops = reach(alloc, objects, bindings, publication)?;
+    let names = names_of(alloc, objects, &stops)?;
+    Ok(names)
+}
+
+/// The name of the queue to which the default exchange leads, if it stands.
+pub(crate) fn names_named(
+    alloc: Global,
+    objects: &[Object],
+    publication: Publication,
+) -> Result<Vec<Text>, AllocError>
+    requires default { publication.exchange.now ≡ [] }
+    ensures { IfOk result (λ names. (others : List SpecBinding) → names.items ≡ routed_names (record { objects = objects.now; bindings = others }) (publish publication.entry.exchange.now publication.entry.key.now (table_view publication.entry.headers.now))) }
+{
+    let stops = reach_named(alloc, publication)?;
+    let names = names_of(alloc, objects, &stops)?;
+    Ok(names)
 }

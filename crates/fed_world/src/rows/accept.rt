@@ -1,5 +1,6 @@
 //! The target publishes the message that was sent first.
-ghost use Rattle.std.specs.Prelude.{◌≡◌, ◌+◌, IfOk, Some};
+ghost use Rattle.std.specs.Prelude.{◌≡◌, ◌+◌, ◌≤◌, IfOk, Some, length};
+ghost use Rattle.fed_journal.specs.declared.journal.TheConstants.{MAX_ENTRIES};
 ghost use Rattle.std.specs.Option.{option_copied};
 ghost use Rattle.fed_journal.specs.Copies.{publication_count, copy_count};
 ghost use Rattle.fed_journal.specs.Outgoing.{outgoing};
@@ -9,11 +10,10 @@ ghost use Rattle.fed_world.specs.Accept.{accept_row, accept_first, accepted};
 use crate::reason::Reason;
 use crate::row::{Row, one};
 use crate::rows::publish::published;
+use amqp_props::{Message, Text};
 use fed_journal::entry::{Entry, Publication, Publisher};
 use fed_journal::journal::Numbers;
 use fed_journal::link::LinkSpec;
-use fed_journal::message::Message;
-use fed_journal::text::Text;
 use journal_scan::copies::publication_of;
 use journal_scan::flight::flight_sent;
 use journal_scan::links::link_of;
@@ -24,11 +24,15 @@ use std::alloc::{AllocError, Global};
 fn outgoing(alloc: Global, spec: &LinkSpec, message: &Message) -> Result<Message, AllocError>
     ensures { IfOk result (λ sent. sent ≡ outgoing spec.now message.now) }
 {
+    let exchange = Text::from_str(alloc, "")?;
+    let key = spec.target_queue.clone()?;
+    let props = message.props.clone()?;
+    let body = message.body.clone()?;
     Ok(Message {
-        exchange: Text::from_str(alloc, "")?,
-        key: spec.target_queue.clone()?,
-        persistent: message.persistent,
-        body: message.body.clone()?,
+        exchange,
+        key,
+        props,
+        body,
     })
 }
 
@@ -43,6 +47,7 @@ fn accepted(
 ) -> Result<Row, AllocError>
     requires publication { next.publication ≡ publication_count journal.now + 1 }
     requires copy { next.copy ≡ copy_count journal.now + 1 }
+    requires within { length journal.now ≤ MAX_ENTRIES }
     ensures { IfOk result (λ row. row_of row ≡ accepted journal.now spec.now copy spec.now.target (option_copied publication.entry)) }
 {
     let Some(target) = &spec.target else {
@@ -70,6 +75,7 @@ pub fn accept_row(
 ) -> Result<Row, AllocError>
     requires publication { next.publication ≡ publication_count journal.now + 1 }
     requires copy { next.copy ≡ copy_count journal.now + 1 }
+    requires within { length journal.now ≤ MAX_ENTRIES }
     ensures { IfOk result (λ row. row_of row ≡ accept_row journal.now link.now) }
 {
     let Some(spec) = link_of(alloc, journal, link)? else {

@@ -1,13 +1,13 @@
 //! The target confirms a publication once it is secured.
 ghost use Rattle.std.specs.Prelude.{◌≡◌, All, IfOk, find};
-ghost use Rattle.fed_journal.specs.Copies.{IsNumbered, is_secured};
+ghost use Rattle.fed_journal.specs.Copies.{IsFitting, is_secured};
 ghost use Rattle.fed_world.specs.RowOf.{row_of};
 ghost use Rattle.fed_world.specs.Confirm.{confirm_row, confirm_first};
 
 use crate::reason::Reason;
 use crate::row::{Row, one};
+use amqp_props::Text;
 use fed_journal::entry::Entry;
-use fed_journal::text::Text;
 use journal_scan::copies::is_secured;
 use journal_scan::flight::flight_published;
 use journal_scan::links::link_of;
@@ -16,7 +16,7 @@ use std::alloc::{AllocError, Global};
 
 /// The first of the publications that is secured.
 fn first_secured(journal: &[Entry], publications: &[u64]) -> Option<u64>
-    requires { All IsNumbered journal.now }
+    requires { All IsFitting journal.now }
     ensures { result ≡ find (is_secured journal.now) publications.now }
 {
     publications
@@ -33,7 +33,7 @@ fn confirm_first(
     session: u32,
     publications: &[u64],
 ) -> Result<Row, AllocError>
-    requires { All IsNumbered journal.now }
+    requires { All IsFitting journal.now }
     ensures { IfOk result (λ row. row_of row ≡ confirm_first journal.now link.now session publications.now) }
 {
     if publications.is_empty() {
@@ -58,7 +58,7 @@ fn confirm_first(
 /// The row of `confirm`.
 #[tactic(auto, unfolding(crate::specs::Confirm::confirm_row))]
 pub fn confirm_row(alloc: Global, journal: &[Entry], link: &Text) -> Result<Row, AllocError>
-    requires { All IsNumbered journal.now }
+    requires { All IsFitting journal.now }
     ensures { IfOk result (λ row. row_of row ≡ confirm_row journal.now link.now) }
 {
     if link_of(alloc, journal, link)?.is_none() {

@@ -5,9 +5,9 @@ ghost use Rattle.fed_world.specs.Consume.{consumes, consume_row, cancel_row};
 
 use crate::reason::Reason;
 use crate::row::{Row, channel_of, nothing, one, queue_refusal};
+use amqp_props::Text;
 use fed_journal::entry::Entry;
 use fed_journal::place::Place;
-use fed_journal::text::Text;
 use journal_scan::configuration::is_place;
 use journal_scan::consumers::{ConsumerName, consumer};
 use std::alloc::{AllocError, Global};

@@ -1,14 +1,15 @@
-//! A client declares a durable queue.
+//! A client declares a queue or an exchange.
 ghost use Rattle.std.specs.Prelude.{◌≡◌, IfOk};
 ghost use Rattle.fed_world.specs.RowOf.{row_of};
-ghost use Rattle.fed_world.specs.Declare.{declare_row, lasting, stands, is_broker_name, is_refused};
+ghost use Rattle.fed_world.specs.Declare.{declare_row, declared_queue, same_options, lasting, stands, is_broker_name, is_refused, same_kind, same_shape, is_exchange_refused, declared_exchange, declare_exchange_row};
 
 use crate::reason::Reason;
 use crate::row::{Row, nothing, one};
+use amqp_props::{ExchangeKind, QueueOptions, Text};
 use fed_journal::entry::Entry;
-use fed_journal::place::{Place, QueueOptions};
-use fed_journal::text::{Text, begins_with, is_reserved};
-use journal_scan::configuration::{is_place, queue_options};
+use fed_journal::place::{ExchangeShape, Place};
+use fed_journal::text::{begins_with, is_reserved};
+use journal_scan::configuration::{exchange_shape, is_place, queue_options};
 use std::alloc::{AllocError, Global};
 
 /// The options of a durable queue that is shared and stays.
@@ -41,24 +42,21 @@ fn is_refused(journal: &[Entry], place: &Place, queue: &Text) -> bool
         || (is_broker_name(queue) && !stands(journal, place, queue))
 }
 
-/// The row of `declare`.
-#[tactic(auto, unfolding(crate::specs::Declare::declare_row))]
-pub fn declare_row(
+/// The row of a queue's declaration, by what it was declared with before.
+fn declared_queue(
     alloc: Global,
-    journal: &[Entry],
     place: &Place,
     queue: &Text,
+    options: QueueOptions,
+    was: Option<QueueOptions>,
 ) -> Result<Row, AllocError>
-    ensures { IfOk result (λ row. row_of row ≡ declare_row journal.now place.now queue.now) }
+    ensures { IfOk result (λ row. row_of row ≡ declared_queue place.now queue.now options was) }
 {
-    if !is_place(journal, place) {
-        return Ok(Err(Reason::NoPlace));
-    }
-    if is_refused(journal, place, queue) {
-        return Ok(Err(Reason::Refused(403)));
-    }
-    if stands(journal, place, queue) {
-        return Ok(nothing(alloc));
+    if let Some(was) = was {
+        if same_options(was, options) {
+            return Ok(nothing(alloc));
+        }
+        return Ok(Err(Reason::Refused(406)));
     }
     let place = place.clone()?;
     let queue = queue.clone()?;
@@ -67,7 +65,127 @@ pub fn declare_row(
         Entry::MadeQueue {
             place,
             queue,
-            options: LASTING,
+            options,
         },
+    )
+}
+
+/// Whether two queues are declared alike.
+fn same_options(one: QueueOptions, other: QueueOptions) -> bool
+    ensures { result ≡ same_options one other }
+{
+    one.durable == other.durable
+        && one.exclusive == other.exclusive
+        && one.auto_delete == other.auto_delete
+}
+
+/// The row of a queue's `declare`.
+#[tactic(auto, unfolding(crate::specs::Declare::declare_row))]
+pub fn declare_row(
+    alloc: Global,
+    journal: &[Entry],
+    place: &Place,
+    queue: &Text,
+    options: QueueOptions,
+) -> Result<Row, AllocError>
+    ensures { IfOk result (λ row. row_of row ≡ declare_row journal.now place.now queue.now options) }
+{
+    if !is_place(journal, place) {
+        return Ok(Err(Reason::NoPlace));
+    }
+    if is_refused(journal, place, queue) {
+        return Ok(Err(Reason::Refused(403)));
+    }
+    declared_queue(
+        alloc,
+        place,
+        queue,
+        options,
+        queue_options(journal, place, queue),
+    )
+}
+
+/// Whether two exchanges are of one type.
+fn same_kind(one: ExchangeKind, other: ExchangeKind) -> bool
+    ensures { result ≡ same_kind one other }
+{
+    matches!(
+        (one, other),
+        (ExchangeKind::Direct, ExchangeKind::Direct)
+            | (ExchangeKind::Fanout, ExchangeKind::Fanout)
+            | (ExchangeKind::Headers, ExchangeKind::Headers)
+            | (ExchangeKind::Topic, ExchangeKind::Topic)
+    )
+}
+
+/// Whether two exchanges are declared alike.
+fn same_shape(one: ExchangeShape, other: ExchangeShape) -> bool
+    ensures { result ≡ same_shape one other }
+{
+    same_kind(one.kind, other.kind)
+        && one.durable == other.durable
+        && one.internal == other.internal
+}
+
+/// Whether the broker refuses a client to declare an exchange of that name.
+fn is_exchange_refused(journal: &[Entry], place: &Place, exchange: &Text) -> bool
+    ensures { result ≡ is_exchange_refused journal.now place.now exchange.now }
+{
+    exchange.as_str().is_empty()
+        || is_reserved(exchange)
+        || (begins_with(exchange, b"amq.") && exchange_shape(journal, place, exchange).is_none())
+}
+
+/// The row of an exchange's declaration, by what it was declared as before.
+fn declared_exchange(
+    alloc: Global,
+    place: &Place,
+    exchange: &Text,
+    shape: ExchangeShape,
+    was: Option<ExchangeShape>,
+) -> Result<Row, AllocError>
+    ensures { IfOk result (λ row. row_of row ≡ declared_exchange place.now exchange.now shape was) }
+{
+    if let Some(was) = was {
+        if same_shape(was, shape) {
+            return Ok(nothing(alloc));
+        }
+        return Ok(Err(Reason::Refused(406)));
+    }
+    let place = place.clone()?;
+    let exchange = exchange.clone()?;
+    one(
+        alloc,
+        Entry::MadeExchange {
+            place,
+            exchange,
+            shape,
+        },
+    )
+}
+
+/// The row of an exchange's `declare`.
+#[tactic(auto, unfolding(crate::specs::Declare::declare_exchange_row))]
+pub fn declare_exchange_row(
+    alloc: Global,
+    journal: &[Entry],
+    place: &Place,
+    exchange: &Text,
+    shape: ExchangeShape,
+) -> Result<Row, AllocError>
+    ensures { IfOk result (λ row. row_of row ≡ declare_exchange_row journal.now place.now exchange.now shape) }
+{
+    if !is_place(journal, place) {
+        return Ok(Err(Reason::NoPlace));
+    }
+    if is_exchange_refused(journal, place, exchange) {
+        return Ok(Err(Reason::Refused(403)));
+    }
+    declared_exchange(
+        alloc,
+        place,
+        exchange,
+        shape,
+        exchange_shape(journal, place, exchange),
     )
 }

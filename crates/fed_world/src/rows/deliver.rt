@@ -1,15 +1,15 @@
 //! A queue hands a copy to a consumer.
 ghost use Rattle.std.specs.Prelude.{◌≡◌, Some, All, IfOk};
-ghost use Rattle.fed_journal.specs.Copies.{IsNumbered};
+ghost use Rattle.fed_journal.specs.Copies.{IsFitting};
 ghost use Rattle.journal_scan.specs.View.{consumer_from};
 ghost use Rattle.fed_world.specs.RowOf.{row_of};
 ghost use Rattle.fed_world.specs.Deliver.{is_busy, deliver_to, deliver_row};
 
 use crate::reason::Reason;
 use crate::row::{Row, channel_of, one};
+use amqp_props::Text;
 use fed_journal::entry::Entry;
 use fed_journal::place::Place;
-use fed_journal::text::Text;
 use journal_scan::configuration::is_place;
 use journal_scan::consumers::{ConsumerName, Subscription, consumer, held_count};
 use journal_scan::holds::first_ready;
@@ -24,7 +24,7 @@ fn is_busy(
     tag: &Text,
     consumer: Subscription<'_>,
 ) -> Result<bool, AllocError>
-    requires { All IsNumbered journal.now }
+    requires { All IsFitting journal.now }
     ensures { IfOk result (λ busy. busy ≡ is_busy journal.now place.now client tag.now (consumer_from consumer.entry)) }
 {
     let name = ConsumerName {
@@ -45,7 +45,7 @@ fn deliver_to(
     tag: &Text,
     consumer: Subscription<'_>,
 ) -> Result<Row, AllocError>
-    requires { All IsNumbered journal.now }
+    requires { All IsFitting journal.now }
     ensures { IfOk result (λ row. row_of row ≡ deliver_to journal.now place.now client tag.now (Some (consumer_from consumer.entry))) }
 {
     if is_busy(alloc, journal, place, client, tag, consumer)? {
@@ -81,7 +81,7 @@ pub fn deliver_row(
     client: u16,
     tag: &Text,
 ) -> Result<Row, AllocError>
-    requires { All IsNumbered journal.now }
+    requires { All IsFitting journal.now }
     ensures { IfOk result (λ row. row_of row ≡ deliver_row journal.now place.now client tag.now) }
 {
     if !is_place(journal, place) {

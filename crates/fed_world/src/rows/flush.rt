@@ -5,8 +5,8 @@ ghost use Rattle.fed_world.specs.Flush.{flush_row};
 
 use crate::reason::Reason;
 use crate::row::{Row, one};
+use amqp_props::Text;
 use fed_journal::entry::Entry;
-use fed_journal::text::Text;
 use journal_scan::configuration::is_broker;
 use std::alloc::{AllocError, Global};
 

@@ -1,14 +1,14 @@
 //! A client asks for a copy.
 ghost use Rattle.std.specs.Prelude.{◌≡◌, All, IfOk};
-ghost use Rattle.fed_journal.specs.Copies.{IsNumbered};
+ghost use Rattle.fed_journal.specs.Copies.{IsFitting};
 ghost use Rattle.fed_world.specs.RowOf.{row_of};
 ghost use Rattle.fed_world.specs.Get.{get_row};
 
 use crate::reason::Reason;
 use crate::row::{Row, channel_of, one, queue_refusal};
+use amqp_props::Text;
 use fed_journal::entry::Entry;
 use fed_journal::place::Place;
-use fed_journal::text::Text;
 use journal_scan::configuration::is_place;
 use journal_scan::holds::first_ready;
 use std::alloc::{AllocError, Global};
@@ -23,7 +23,7 @@ pub fn get_row(
     queue: &Text,
     no_ack: bool,
 ) -> Result<Row, AllocError>
-    requires { All IsNumbered journal.now }
+    requires { All IsFitting journal.now }
     ensures { IfOk result (λ row. row_of row ≡ get_row journal.now place.now client queue.now no_ack) }
 {
     if !is_place(journal, place) {

@@ -8,10 +8,10 @@ ghost use Rattle.fed_world.specs.Open.{open_row, open_if_startable, opened, made
 use crate::reason::Reason;
 use crate::row::Row;
 use crate::rows::declare::{LASTING, stands};
+use amqp_props::Text;
 use fed_journal::entry::Entry;
 use fed_journal::link::{LinkSpec, StartState};
 use fed_journal::place::Place;
-use fed_journal::text::Text;
 use journal_scan::holds::ready_count;
 use journal_scan::links::link_of;
 use journal_scan::phases::{is_open, session};

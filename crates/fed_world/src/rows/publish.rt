@@ -1,36 +1,21 @@
 //! A message is published.
-ghost use Rattle.std.specs.Prelude.{◌≡◌, ◌+◌, IfOk, List};
+ghost use Rattle.std.specs.Prelude.{◌≡◌, ◌+◌, ◌≤◌, IfOk, List, length};
 ghost use Rattle.fed_journal.specs.Copies.{publication_count, copy_count};
 ghost use Rattle.fed_journal.specs.declared.entry.Entry.{Entry};
+ghost use Rattle.fed_journal.specs.declared.journal.TheConstants.{MAX_ENTRIES};
 ghost use Rattle.fed_world.specs.RowOf.{row_of};
-ghost use Rattle.fed_world.specs.Publish.{publish_row, routes, published, first_copy};
+ghost use Rattle.fed_world.specs.Publish.{publish_row, publish_refusal, shape_refusal, published, first_copy};
 
 use crate::reason::Reason;
 use crate::row::{Row, channel_of, one};
-use crate::rows::declare::stands;
+use amqp_props::{Message, Text};
 use fed_journal::entry::{Entry, Publication, Publisher};
 use fed_journal::journal::Numbers;
-use fed_journal::message::Message;
-use fed_journal::place::Place;
-use fed_journal::text::{Names, Octets, Text, is_reserved};
-use journal_scan::configuration::is_place;
+use fed_journal::place::{ExchangeShape, Place};
+use fed_journal::text::{Names, is_reserved};
+use journal_scan::configuration::{exchange_shape, is_place};
+use journal_scan::routing::routes;
 use std::alloc::{AllocError, Global};
-
-/// The queues that the default exchange routes the message to.
-fn routes(
-    alloc: Global,
-    journal: &[Entry],
-    place: &Place,
-    message: &Message,
-) -> Result<Names, AllocError>
-    ensures { IfOk result (λ queues. queues ≡ routes journal.now place.now message.now) }
-{
-    let mut queues = Vec::new(alloc);
-    if !is_reserved(&message.key) && stands(journal, place, &message.key) {
-        queues.push(message.key.clone()?)?;
-    }
-    Ok(Names::new(queues))
-}
 
 /// The number of the publication's first copy, 0 if it has none.
 fn first_copy(queues: &Names, next: Numbers) -> u64
@@ -54,6 +39,7 @@ pub(crate) fn published(
 ) -> Result<Entry, AllocError>
     requires publication { next.publication ≡ publication_count journal.now + 1 }
     requires copy { next.copy ≡ copy_count journal.now + 1 }
+    requires within { length journal.now ≤ MAX_ENTRIES }
     ensures { IfOk result (λ entry. entry ≡ published journal.now place.now by message) }
 {
     let queues = routes(alloc, journal, place, &message)?;
@@ -70,6 +56,35 @@ pub(crate) fn published(
     }))
 }
 
+/// Why a client can't publish to an exchange of that shape, if it can't.
+fn shape_refusal(shape: Option<ExchangeShape>) -> Option<Reason>
+    ensures { result ≡ shape_refusal shape }
+{
+    match shape {
+        None => Some(Reason::Refused(404)),
+        Some(shape) => {
+            if shape.internal {
+                Some(Reason::Refused(403))
+            } else {
+                None
+            }
+        }
+    }
+}
+
+/// Why a client can't publish to the exchange, if it can't.
+fn publish_refusal(journal: &[Entry], place: &Place, exchange: &Text) -> Option<Reason>
+    ensures { result ≡ publish_refusal journal.now place.now exchange.now }
+{
+    if is_reserved(exchange) {
+        Some(Reason::Refused(403))
+    } else if exchange.as_str().is_empty() {
+        None
+    } else {
+        shape_refusal(exchange_shape(journal, place, exchange))
+    }
+}
+
 /// The row of a client's `publish`.
 #[tactic(auto, unfolding(crate::specs::Publish::publish_row))]
 pub fn publish_row(
@@ -77,24 +92,21 @@ pub fn publish_row(
     journal: &[Entry],
     place: &Place,
     client: u16,
-    key: &Text,
-    body: &Octets,
-    persistent: bool,
+    message: &Message,
     next: Numbers,
 ) -> Result<Row, AllocError>
     requires publication { next.publication ≡ publication_count journal.now + 1 }
     requires copy { next.copy ≡ copy_count journal.now + 1 }
-    ensures { IfOk result (λ row. row_of row ≡ publish_row journal.now place.now client key.now body.now persistent) }
+    requires within { length journal.now ≤ MAX_ENTRIES }
+    ensures { IfOk result (λ row. row_of row ≡ publish_row journal.now place.now client message.now) }
 {
     if !is_place(journal, place) {
         return Ok(Err(Reason::NoPlace));
     }
-    let message = Message {
-        exchange: Text::from_str(alloc, "")?,
-        key: key.clone()?,
-        persistent,
-        body: body.clone()?,
-    };
+    if let Some(reason) = publish_refusal(journal, place, &message.exchange) {
+        return Ok(Err(reason));
+    }
+    let message = message.clone()?;
     let by = Publisher::Client(channel_of(client));
     one(alloc, published(alloc, journal, place, by, message, next)?)
 }

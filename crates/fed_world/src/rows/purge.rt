@@ -5,9 +5,9 @@ ghost use Rattle.fed_world.specs.Purge.{purge_row};
 
 use crate::reason::Reason;
 use crate::row::{Row, one, queue_refusal};
+use amqp_props::Text;
 use fed_journal::entry::Entry;
 use fed_journal::place::Place;
-use fed_journal::text::Text;
 use journal_scan::configuration::is_place;
 use std::alloc::{AllocError, Global};
 

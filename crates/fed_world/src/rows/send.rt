@@ -5,8 +5,8 @@ ghost use Rattle.fed_world.specs.Send.{send_row};
 
 use crate::reason::Reason;
 use crate::row::{Row, one};
+use amqp_props::Text;
 use fed_journal::entry::Entry;
-use fed_journal::text::Text;
 use journal_scan::flight::flight_took;
 use journal_scan::links::link_of;
 use journal_scan::phases::{is_open, session};

@@ -5,10 +5,10 @@ ghost use Rattle.fed_world.specs.SetShovel.{set_shovel_row};
 
 use crate::reason::Reason;
 use crate::row::{Row, nothing, one};
+use amqp_props::Text;
 use fed_journal::entry::Entry;
 use fed_journal::event::Shovel;
 use fed_journal::place::Place;
-use fed_journal::text::Text;
 use journal_scan::configuration::is_place;
 use journal_scan::links::is_shovel_set;
 use std::alloc::{AllocError, Global};

@@ -1,14 +1,14 @@
 //! The source hands its first ready copy to the link.
 ghost use Rattle.std.specs.Prelude.{◌≡◌, All, IfOk};
-ghost use Rattle.fed_journal.specs.Copies.{IsNumbered};
+ghost use Rattle.fed_journal.specs.Copies.{IsFitting};
 ghost use Rattle.fed_world.specs.RowOf.{row_of};
 ghost use Rattle.fed_world.specs.Take.{take_row, first_ready_at};
 
 use crate::reason::Reason;
 use crate::row::{Row, one};
+use amqp_props::Text;
 use fed_journal::entry::Entry;
 use fed_journal::place::Place;
-use fed_journal::text::Text;
 use journal_scan::holds::first_ready;
 use journal_scan::links::link_of;
 use journal_scan::phases::{is_open, session};
@@ -16,7 +16,7 @@ use std::alloc::{AllocError, Global};
 
 /// The copy that the queue would hand out now, where the place is one of the run.
 fn first_ready_at(journal: &[Entry], place: &Option<Place>, queue: &Text) -> Option<u64>
-    requires { All IsNumbered journal.now }
+    requires { All IsFitting journal.now }
     ensures { result ≡ first_ready_at journal.now place.now queue.now }
 {
     match place {
@@ -28,7 +28,7 @@ fn first_ready_at(journal: &[Entry], place: &Option<Place>, queue: &Text) -> Opt
 /// The row of `take`.
 #[tactic(auto, unfolding(crate::specs::Take::take_row))]
 pub fn take_row(alloc: Global, journal: &[Entry], link: &Text) -> Result<Row, AllocError>
-    requires { All IsNumbered journal.now }
+    requires { All IsFitting journal.now }
     ensures { IfOk result (λ row. row_of row ≡ take_row journal.now link.now) }
 {
     let Some(spec) = link_of(alloc, journal, link)? else {

@@ -8,4 +8,4 @@ use Rattle.fed_world.proofs.world.fitting_row.Goals as goal
 pub returns-clause-fits : goal.returns-clause-fits
 returns-clause-fits c =
     let small : copy_count c.args.journal.now.entries < 2 ^ 63 = copies-small c.entries-entries.ensures.same c.entries-entries.ensures.within c.entries-entries.ensures.copies in
-    rw c.in_ok-row.ensures (next-fits _ c.args.event.now small c.requires.sessions)
+    rw c.in_ok-row.ensures (next-fits _ c.args.event.now c.requires.writable c.requires.sound.within small c.requires.sound.sessions c.requires.sound.sized)

@@ -1,6 +1,5 @@
-use Rattle.std.proofs.Common.{◌≡◌, ℕ, suc, ◌+◌, ◌-◌, ◌∙◌, drop, sym, ap, arith, true, false}
+use Rattle.std.proofs.Common.{◌+◌, ◌∙◌, drop, sym, ap, arith}
 use Rattle.std.specs.Prelude.{filter, slice_get}
-use Rattle.std.proofs.lemmas.List.{drop_all}
 use Rattle.route_core.specs.declared.binding.Binding.{Binding}
 use Rattle.route_core.specs.Bindings.{leaves}
 use Rattle.route_core.proofs.Lists.{from_item, at_here, at_more, at_skip, at_end}

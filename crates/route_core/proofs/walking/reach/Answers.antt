@@ -1,4 +1,4 @@
-use Rattle.std.proofs.Common.{ℕ, ◌<◌, ◌≤◌, length, arith}
+use Rattle.std.proofs.Common.{◌<◌, ◌≤◌, length, arith}
 use Rattle.route_core.proofs.StopLemmas.{searched_none, searched_step, search_falls, searched_all}
 use Rattle.route_core.proofs.walking.reach.Goals as goal
 

@@ -1,9 +1,8 @@
-use Rattle.std.proofs.Common.{◌≡◌, ℕ, ◌+◌, ◌∷◌, ◌++◌, [], List, length, take, sym, ap, subst, ◌∙◌, rules, arith}
+use Rattle.std.proofs.Common.{◌≡◌, ℕ, ◌∷◌, ◌++◌, [], List, sym, ap, subst, ◌∙◌}
 use Rattle.std.proofs.lemmas.List.{take_all}
-use Rattle.std.proofs.lemmas.Grind.{common_steps}
 use Rattle.field_tables.specs.View.{table_view}
 use Rattle.route_core.specs.declared.binding.Binding.{Binding}
-use Rattle.route_core.specs.Walks.{publish, exchange_stop, dest_of, stop, Stop}
+use Rattle.route_core.specs.Walks.{publish, exchange_stop, dest_of, stop}
 use Rattle.route_core.specs.Spreading.{Spreads}
 use Rattle.route_core.proofs.Lists.{take_step}
 use Rattle.route_core.proofs.StopLemmas.{spreads_none, spreads_skip, spreads_push}

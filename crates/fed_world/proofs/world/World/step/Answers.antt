@@ -4,15 +4,14 @@ use Rattle.fed_world.specs.Kept.{LeavesStored, RemovesMoved, RemovesHeld}
 use Rattle.fed_world.specs.Run.{IsReached}
 use Rattle.fed_world.proofs.Reached.{reached-moved, reached-held, extended-reached, extended-leaves_stored, same-leaves_stored}
 use Rattle.fed_world.proofs.world.World.step.Goals as goal
-use Rattle.fed_world.proofs.world.World.step.Goals.{in-Ok, in-Err-Entries, in-Err-Memory}
+use Rattle.fed_world.proofs.world.World.step.Goals.{in-Ok, in-Err-extend}
 
 pub invariant_of-self : goal.invariant_of-self
 invariant_of-self c = (
   c.extend.ensures.sound,
   elim c.match-extend.branch [
     | in-Ok w ↦ extended-reached _ _ _ c.args.event.now c.self.invariant.1 (sym (ap row_of c.in-Ok-Ok.field-0-is) ∙ c.in-Ok-Ok.ensures.row) w.in-Ok.ensures.ok
-    | in-Err-Entries w ↦ subst IsReached (sym w.in-Err-Entries.ensures.err) c.self.invariant.1
-    | in-Err-Memory w ↦ subst IsReached (sym w.in-Err-Memory.ensures.err) c.self.invariant.1
+    | in-Err-extend w ↦ subst IsReached (sym w.in-Err-extend.ensures.err) c.self.invariant.1
   ],
 )
 
@@ -31,20 +30,17 @@ returns-in-Ok-Err-clause-held c = subst RemovesHeld c.self.view_is (reached-held
 pub returns-after-extend-clause-stored : goal.returns-after-extend-clause-stored
 returns-after-extend-clause-stored c = subst (λ J. LeavesStored J c.args.event.now c.extend.new.journal.entries) c.self.view_is (elim c.match-extend.branch [
   | in-Ok w ↦ extended-leaves_stored _ _ _ c.args.event.now (sym (ap row_of c.in-Ok-Ok.field-0-is) ∙ c.in-Ok-Ok.ensures.row) w.in-Ok.ensures.ok
-  | in-Err-Entries w ↦ same-leaves_stored _ _ c.args.event.now w.in-Err-Entries.ensures.err
-  | in-Err-Memory w ↦ same-leaves_stored _ _ c.args.event.now w.in-Err-Memory.ensures.err
+  | in-Err-extend w ↦ same-leaves_stored _ _ c.args.event.now w.in-Err-extend.ensures.err
 ])
 
 pub returns-after-extend-clause-moved : goal.returns-after-extend-clause-moved
 returns-after-extend-clause-moved c = reached-moved _ (elim c.match-extend.branch [
   | in-Ok w ↦ extended-reached _ _ _ c.args.event.now c.self.invariant.1 (sym (ap row_of c.in-Ok-Ok.field-0-is) ∙ c.in-Ok-Ok.ensures.row) w.in-Ok.ensures.ok
-  | in-Err-Entries w ↦ subst IsReached (sym w.in-Err-Entries.ensures.err) c.self.invariant.1
-  | in-Err-Memory w ↦ subst IsReached (sym w.in-Err-Memory.ensures.err) c.self.invariant.1
+  | in-Err-extend w ↦ subst IsReached (sym w.in-Err-extend.ensures.err) c.self.invariant.1
 ])
 
 pub returns-after-extend-clause-held : goal.returns-after-extend-clause-held
 returns-after-extend-clause-held c = reached-held _ (elim c.match-extend.branch [
   | in-Ok w ↦ extended-reached _ _ _ c.args.event.now c.self.invariant.1 (sym (ap row_of c.in-Ok-Ok.field-0-is) ∙ c.in-Ok-Ok.ensures.row) w.in-Ok.ensures.ok
-  | in-Err-Entries w ↦ subst IsReached (sym w.in-Err-Entries.ensures.err) c.self.invariant.1
-  | in-Err-Memory w ↦ subst IsReached (sym w.in-Err-Memory.ensures.err) c.self.invariant.1
+  | in-Err-extend w ↦ subst IsReached (sym w.in-Err-extend.ensures.err) c.self.invariant.1
 ])

@@ -1,0 +1,130 @@
+-- The policies of a definitions file (RabbitMQ's "Parameters and Policies"). Of a definition, the three keys that federate
+-- are read ("Federation Plugin": `federation-upstream`, `federation-upstream-set`, `federation-upstream-pattern`).
+use Rattle.std.specs.Prelude.{ℕ, ℤ, pos, List, [], ◌∷◌, Bool, false, not, nat_lt, chars, codes, Option, Some, None, unwrap_or, option_and_then, if◌then◌else◌}
+use Rattle.std.specs.Option.{option_map_or}
+use Rattle.serde_json.specs.Data.{Data, Items}
+use Rattle.serde_json.specs.Find.{get, as_str, as_number, as_i64}
+use Rattle.regex.specs.Patterns.{default_config}
+use Rattle.regex_syntax.specs.Grammar.{read}
+use Rattle.policy_core.specs.Patterns.{nest_limit}
+use Rattle.policy_core.specs.declared.policy.Apply.{Apply}
+use Rattle.policy_core.specs.declared.policy.Apply.TheVariants as apply
+use Rattle.fed_defs.specs.declared.config.PolicyDef.{PolicyDef}
+use Rattle.fed_defs.specs.declared.fault.Refusal.{Refusal}
+use Rattle.fed_defs.specs.declared.fault.Refusal.TheVariants.{Shape, Pattern}
+use Rattle.fed_defs.specs.declared.fault.KeyFault.{KeyFault}
+use Rattle.fed_defs.specs.declared.fault.KeyFault.TheVariants as key
+use Rattle.fed_defs.specs.declared.inert.KeySet.TheVariants as keys
+use Rattle.fed_defs.specs.declared.names.Name.{Name}
+use Rattle.fed_defs.specs.declared.placed.Placed.{Placed}
+use Rattle.fed_defs.specs.Inert.{inert_at}
+use Rattle.fed_defs.specs.Keys.{value_at, optional_fault, required_fault, first_fault}
+use Rattle.fed_defs.specs.Lists.{kept_of, total_of, list_fault}
+use Rattle.fed_defs.specs.Paths.{item_fault, object_fault}
+use Rattle.fed_defs.specs.Queues.{object_name}
+use Rattle.fed_defs.specs.Shovels.{short_text_refusal}
+use Rattle.fed_defs.specs.Values.{same_text, misfit, refused_unless}
+use Rattle.fed_defs.specs.Vhosts.{no_item, text_at, vhost_at, own_vhost_fault}
+
+-- ---- values
+
+-- a regular expression that nests no deeper than the limit
+unfoldable pub is_pattern : List ℕ → Bool
+is_pattern text = option_map_or (λ found. not (nat_lt nest_limit found.0.depth)) (read default_config (chars text)) false
+
+abbrev pub pattern_refusal_of : Data → Option (List ℕ) → Option Refusal
+pattern_refusal_of d None = Some (misfit d)
+pattern_refusal_of d (Some text) = if is_pattern text then None else Some Pattern
+
+unfoldable pub pattern_refusal : Data → Option Refusal
+pattern_refusal d = pattern_refusal_of d (as_str d)
+
+-- the words of `apply-to`
+unfoldable pub apply_word : List ℕ → Option Apply
+apply_word text =
+    if same_text text (codes "all") then Some apply.All else
+    if same_text text (codes "exchanges") then Some apply.Exchanges else
+    if same_text text (codes "queues") then Some apply.Queues else
+    if same_text text (codes "classic_queues") then Some apply.Classic else
+    if same_text text (codes "quorum_queues") then Some apply.Quorum else
+    if same_text text (codes "streams") then Some apply.Streams else None
+
+abbrev pub apply_at : Data → Option Apply
+apply_at d = option_and_then apply_word (as_str d)
+
+unfoldable pub apply_refusal : Data → Option Refusal
+apply_refusal d = refused_unless (apply_at d) d
+
+-- a whole number of 64 bits with its sign
+abbrev pub signed_at : Data → Option ℤ
+signed_at d = option_and_then as_i64 (as_number d)
+
+unfoldable pub priority_refusal : Data → Option Refusal
+priority_refusal d = refused_unless (signed_at d) d
+
+-- ---- one policy
+
+-- a text in its definition
+abbrev pub defined_at : List ℕ → Data → Option (List ℕ)
+defined_at k d = option_and_then (value_at as_str k) (get (codes "definition") d)
+
+unfoldable pub policy_of : Data → Placed PolicyDef
+policy_of d = record {
+  vhost = vhost_at d;
+  item = record {
+    name = text_at (codes "name") d;
+    pattern = text_at (codes "pattern") d;
+    apply = unwrap_or (value_at apply_at (codes "apply-to") d) apply.All;
+    priority = unwrap_or (value_at signed_at (codes "priority") d) (pos 0);
+    upstream = defined_at (codes "federation-upstream") d;
+    set = defined_at (codes "federation-upstream-set") d;
+    upstream_pattern = defined_at (codes "federation-upstream-pattern") d;
+  };
+}
+
+-- the keys of a definition, in the order of their octets
+unfoldable pub definition_fault : Data → Option KeyFault
+definition_fault d = first_fault (
+    optional_fault short_text_refusal (codes "federation-upstream") d
+    ∷ optional_fault pattern_refusal (codes "federation-upstream-pattern") d
+    ∷ optional_fault short_text_refusal (codes "federation-upstream-set") d
+    ∷ [])
+
+-- an object that has to be there
+abbrev pub required_object : (Data → Option KeyFault) → List ℕ → Option Data → Option KeyFault
+required_object inner k None = Some (key.Refused k Shape)
+required_object inner k (Some d) = object_fault inner k d
+
+-- the keys in their order
+unfoldable pub policy_front_fault : List Name → Data → Option KeyFault
+policy_front_fault vhosts d = first_fault (
+    own_vhost_fault vhosts d
+    ∷ required_fault short_text_refusal (codes "name") d
+    ∷ required_fault pattern_refusal (codes "pattern") d
+    ∷ optional_fault apply_refusal (codes "apply-to") d
+    ∷ [])
+
+unfoldable pub policy_all_fault : List Name → Data → Option KeyFault
+policy_all_fault vhosts d = first_fault (
+    policy_front_fault vhosts d
+    ∷ required_object definition_fault (codes "definition") (get (codes "definition") d)
+    ∷ optional_fault priority_refusal (codes "priority") d
+    ∷ [])
+
+unfoldable pub policy_fault : List Name → ℕ → Data → Option KeyFault
+policy_fault vhosts index d = item_fault (codes "policies") index d (policy_all_fault vhosts d)
+
+-- the other keys of its definition are inert
+unfoldable pub policy_inert : Data → ℕ
+policy_inert d = inert_at keys.Policy (codes "definition") d
+
+-- ---- the list
+
+abbrev pub policies_of : Items → List (Placed PolicyDef)
+policies_of items = kept_of no_item policy_of items
+
+abbrev pub policies_inert : Items → ℕ
+policies_inert items = total_of no_item policy_inert items
+
+abbrev pub policies_fault : List Name → List Name → ℕ → Items → Option KeyFault
+policies_fault vhosts seen index items = list_fault no_item (policy_fault vhosts) object_name (codes "policies") seen index items

@@ -1,0 +1,76 @@
+//! The message of a publication.
+ghost use Rattle.std.specs.Prelude.{◌≡◌, ℕ, IfOk, length, min};
+ghost use Rattle.amqp_props.specs.ContentHeader.{header_spelling};
+ghost use Rattle.fed_schedule.specs.Messages.{is_persistent, headers_of, headers_length, props_of, message_of};
+
+use crate::options::header_words;
+use crate::values::arguments_of;
+use crate::words::{is_word, octets_of, text_of, word_at, words_from};
+use amqp_props::{FieldTable, Message, Octets, Properties};
+use fed_journal::message::properties;
+use std::alloc::{AllocError, Global};
+
+/// What a word of a header field begins with.
+pub(crate) const HEADER_FRONT: &str = "header=";
+
+fn is_persistent(words: &[Octets]) -> bool
+    ensures { result ≡ is_persistent words.now }
+{
+    is_word(word_at(words, 6), "persistent")
+}
+
+/// The headers that the words write, none where there are no words.
+#[tactic(auto, unfolding(crate::specs::Messages::headers_of))]
+fn headers_of(alloc: Global, words: &[Octets]) -> Result<Option<FieldTable>, AllocError>
+    ensures { IfOk result (λ headers. headers ≡ headers_of words.now) }
+{
+    if words.is_empty() {
+        return Ok(None);
+    }
+    Ok(Some(arguments_of(alloc, HEADER_FRONT, words)?.table))
+}
+
+#[tactic(auto, unfolding(crate::specs::Messages::props_of))]
+fn props_of(alloc: Global, words: &[Octets]) -> Result<Properties, AllocError>
+    ensures { IfOk result (λ props. props ≡ props_of words.now) }
+{
+    let headers = headers_of(alloc, header_words(words_from(words, 6)))?;
+    Ok(properties(is_persistent(words), headers))
+}
+
+/// How many octets the headers take, none where there are no words.
+#[tactic(auto, unfolding(crate::specs::Messages::headers_of))]
+fn headers_len(alloc: Global, words: &[Octets]) -> Result<usize, AllocError>
+    ensures { IfOk result (λ len. len ≡ min (headers_length (headers_of words.now)) usize.MAX) }
+{
+    if words.is_empty() {
+        return Ok(0);
+    }
+    Ok(arguments_of(alloc, HEADER_FRONT, words)?.len)
+}
+
+/// How many octets the content header of the message takes.
+#[tactic(auto, unfolding(crate::specs::Messages::props_of), using(crate::proofs::Lengths::length_header))]
+pub(crate) fn header_len(alloc: Global, words: &[Octets]) -> Result<usize, AllocError>
+    ensures { IfOk result (λ len. (size : ℕ) → len ≡ min (length (header_spelling size (props_of words.now))) usize.MAX) }
+{
+    let headers = headers_len(alloc, header_words(words_from(words, 6)))?;
+    Ok(headers.saturating_add(14 + usize::from(is_persistent(words))))
+}
+
+/// The message that the words of `publish` write.
+#[tactic(auto, unfolding(crate::specs::Messages::message_of))]
+pub(crate) fn message_of(alloc: Global, words: &[Octets]) -> Result<Message, AllocError>
+    ensures { IfOk result (λ message. message ≡ message_of words.now) }
+{
+    let exchange = text_of(alloc, word_at(words, 3))?;
+    let key = text_of(alloc, word_at(words, 4))?;
+    let props = props_of(alloc, words)?;
+    let body = octets_of(alloc, word_at(words, 5))?;
+    Ok(Message {
+        exchange,
+        key,
+        props,
+        body,
+    })
+}

@@ -1,0 +1,213 @@
+//! Exchanges and bindings of a place, and the queues that a message reaches there.
+ghost use Rattle.std.specs.Prelude.{◌≡◌, ◌+◌, ◌<◌, ◌≤◌, ◌^◌, IfOk, OnOk, length};
+ghost use Rattle.fed_journal.specs.declared.journal.TheConstants.{MAX_ENTRIES};
+ghost use Rattle.fed_journal.specs.Routes.{made as made_object, bound as bound_there, unbound as unbound_there, site as site_of_journal, site_step, is_at as is_entry_at, is_bound as is_binding_bound, routes as routes_of_message};
+ghost use Rattle.fed_journal.specs.Messages.{headers_of};
+ghost use Rattle.route_core.specs.Routes.{routed_names};
+ghost use Rattle.route_core.specs.Walks.{publish};
+ghost use Rattle.route_core.specs.Objects.{sort_of as sort_of_node};
+ghost use Rattle.route_core.specs.Routing.{IsNext, stands as object_stands};
+ghost use Rattle.fed_journal.specs.SiteLaws.{IsNumbering};
+
+use amqp_props::{Message, Text};
+use fed_journal::entry::Entry;
+use fed_journal::place::Place;
+use fed_journal::text::Names;
+use field_tables::Table;
+use route_core::{Binding, Node, Router, Sort};
+use std::alloc::{AllocError, Global};
+use std::marker::Model;
+
+/// What stands at a place, and how many queues were made there.
+#[derive(Drop)]
+pub struct Site {
+    router: Router,
+    queues: u32,
+}
+
+impl Model for Site {
+    ghost use Rattle.fed_journal.specs.Routes as routes;
+    ghost use Rattle.journal_scan.specs.View.{coded_site};
+
+    ghost Value = { routes.Site };
+
+    ghost coded = { coded_site };
+
+    ghost view = { λ s. routes.site_of s.router.routing s.queues };
+}
+
+/// Whether a queue or an exchange of that name stands.
+fn stands(router: &Router, sort: Sort, name: &Text) -> bool
+    ensures { result ≡ object_stands sort name.now router.now.routing }
+{
+    (matches!(sort, Sort::Exchange) && name.as_str().is_empty()) || router.has(sort, name.as_str())
+}
+
+/// Makes a queue or an exchange, unless it stands.
+fn make(router: &mut Router, sort: Sort, name: &Text, node: Node) -> Result<(), AllocError>
+    requires sort { sort ≡ sort_of_node node }
+    requires next { IsNext node router.old.routing }
+    ensures { OnOk result (router.new.routing ≡ made_object name.now node router.old.routing) }
+{
+    if stands(router, sort, name) {
+        return Ok(());
+    }
+    router.declare(name.as_str(), node)
+}
+
+/// Binds, unless an end is missing or an equal binding stands.
+fn bind(router: &mut Router, binding: &Binding) -> Result<(), AllocError>
+    ensures { OnOk result (router.new.routing ≡ bound_there binding.now router.old.routing) }
+{
+    if !router.has(Sort::Exchange, binding.source.as_str())
+        || !router.has(binding.sort, binding.dest.as_str())
+    {
+        return Ok(());
+    }
+    router.bind(
+        binding.source.as_str(),
+        binding.sort,
+        binding.dest.as_str(),
+        binding.key.as_str(),
+        binding.args.as_table(),
+    )?;
+    Ok(())
+}
+
+/// Removes the equal binding, if there is one.
+fn unbind(router: &mut Router, binding: &Binding)
+    ensures { router.new.routing ≡ unbound_there binding.now router.old.routing }
+{
+    router.unbind(
+        binding.source.as_str(),
+        binding.sort,
+        binding.dest.as_str(),
+        binding.key.as_str(),
+        binding.args.as_table(),
+    );
+}
+
+/// Whether the entry is of an object or a binding of the place.
+fn is_at(entry: &Entry, place: &Place) -> bool
+    ensures { result ≡ is_entry_at place.now entry.now }
+{
+    match entry {
+        Entry::MadeQueue { place: at, .. }
+        | Entry::MadeExchange { place: at, .. }
+        | Entry::Bound { place: at, .. }
+        | Entry::Unbound { place: at, .. } => at == place,
+        _ => false,
+    }
+}
+
+/// Does at the place what the entry did there.
+fn enter(site: &mut Site, place: &Place, entry: &Entry) -> Result<(), AllocError>
+    requires numbered { IsNumbering site.old }
+    requires few { site.old.queues + 1 < 2 ^ 32 }
+    ensures { OnOk result (site.new ≡ site_step place.now site.old entry.now) }
+{
+    if !is_at(entry, place) {
+        return Ok(());
+    }
+    match entry {
+        Entry::MadeQueue { queue, .. } => {
+            make(
+                &mut site.router,
+                Sort::Queue,
+                queue,
+                Node::Queue(site.queues),
+            )?;
+            site.queues += 1;
+            Ok(())
+        }
+        Entry::MadeExchange {
+            exchange,
+            shape,
+            ..
+        } => make(
+            &mut site.router,
+            Sort::Exchange,
+            exchange,
+            Node::Exchange(shape.kind),
+        ),
+        Entry::Bound { binding, .. } => bind(&mut site.router, binding),
+        Entry::Unbound { binding, .. } => {
+            unbind(&mut site.router, binding);
+            Ok(())
+        }
+        _ => Ok(()),
+    }
+}
+
+impl Site {
+    ghost use Rattle.std.specs.Prelude.{◌≡◌};
+
+    /// The bindings of the place, in the order of binding.
+    pub fn bindings(&self) -> &[Binding]
+        ensures { result.now ≡ self.now.routing.bindings }
+    {
+        self.router.bindings()
+    }
+}
+
+/// The place after the journal.
+#[tactic(auto, unfolding(fed_journal::specs::Routes::site))]
+pub fn place_after(alloc: Global, journal: &[Entry], place: &Place) -> Result<Site, AllocError>
+    requires { length journal.now ≤ MAX_ENTRIES }
+    ensures { IfOk result (λ site. site ≡ site_of_journal journal.now place.now) }
+{
+    let router = Router::new(alloc)?;
+    let mut site = Site { router, queues: 0 };
+    for entry in journal {
+        enter(&mut site, place, entry)?;
+    }
+    Ok(site)
+}
+
+/// Whether an equal binding stands at the place.
+pub fn is_bound(
+    alloc: Global,
+    journal: &[Entry],
+    place: &Place,
+    binding: &Binding,
+) -> Result<bool, AllocError>
+    requires { length journal.now ≤ MAX_ENTRIES }
+    ensures { IfOk result (λ bound. bound ≡ is_binding_bound journal.now place.now binding.now) }
+{
+    let site = place_after(alloc, journal, place)?;
+    Ok(site.router.has_binding(binding))
+}
+
+/// The names of the queues that the message reaches at the place.
+fn reached(alloc: Global, site: &Site, message: &Message) -> Result<Vec<Text>, AllocError>
+    ensures names { IfOk result (λ names. names.items ≡ routed_names site.now.routing (publish message.now.exchange message.now.key (headers_of message.now))) }
+    ensures few { IfOk result (λ names. length names.items ≤ length site.now.routing.objects) }
+{
+    let exchange = message.exchange.as_str();
+    let key = message.key.as_str();
+    match &message.props.headers {
+        Some(headers) => site.router.names(exchange, key, headers.as_table()),
+        None => {
+            let none = Table {
+                pairs: Vec::new(alloc),
+            };
+            site.router.names(exchange, key, &none)
+        }
+    }
+}
+
+/// The queues that the message reaches from its exchange, in the order of their making.
+#[tactic(auto, unfolding(fed_journal::specs::Routes::routes))]
+pub fn routes(
+    alloc: Global,
+    journal: &[Entry],
+    place: &Place,
+    message: &Message,
+) -> Result<Names, AllocError>
+    requires { length journal.now ≤ MAX_ENTRIES }
+    ensures { IfOk result (λ queues. queues ≡ routes_of_message journal.now place.now message.now) }
+{
+    let site = place_after(alloc, journal, place)?;
+    let names = reached(alloc, &site, message)?;
+    Ok(Names::new(names))
+}

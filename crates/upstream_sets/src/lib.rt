@@ -1,0 +1,17 @@
+//! The links that a configuration of brokers asks for.
+#![tactic(auto)]
+
+mod choices;
+mod fault;
+mod federation;
+mod kept;
+mod links;
+mod name;
+mod places;
+mod scope;
+#[cfg(test)]
+mod tests;
+
+pub use fault::LinksFault;
+pub use kept::MAX_LINKS;
+pub use links::links_of;
