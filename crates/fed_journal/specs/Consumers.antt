@@ -4,7 +4,7 @@ use Rattle.std.specs.List.{list_any}
 use Rattle.fed_journal.specs.declared.place.Place.{Place}
 use Rattle.fed_journal.specs.declared.place.Client.{Client}
 use Rattle.fed_journal.specs.declared.entry.Entry.{Entry}
-use Rattle.fed_journal.specs.declared.entry.Entry.TheVariants.{Consumed, Cancelled, Delivered, Closed}
+use Rattle.fed_journal.specs.declared.entry.Entry.TheVariants.{GoneQueue, Consumed, Cancelled, Delivered, Closed}
 use Rattle.fed_journal.specs.Names.{same_text, same_place}
 use Rattle.fed_journal.specs.Holders.{Holder, same_client, is_consumer}
 use Rattle.fed_journal.specs.Copies.{entered}
@@ -19,12 +19,17 @@ pub record Consumer : Type 0 where
 abbrev pub is_same : Place → Client → List ℕ → Place → Client → List ℕ → Bool
 is_same p k t place client tag = same_place place p && same_client client k && same_text tag t
 
--- a consumer lives until it is cancelled or its connection ends (AMQP 0-9-1, basic.cancel)
+abbrev pub is_from : List ℕ → Option Consumer → Bool
+is_from q None = false
+is_from q (Some consumer) = same_text consumer.queue q
+
+-- a consumer lives until it is cancelled, its connection ends or its queue is gone (AMQP 0-9-1, basic.cancel, queue.delete)
 abbrev pub consumer_step : Place → Client → List ℕ → Option Consumer → Entry → Option Consumer
 consumer_step p k t was (Consumed place client queue tag no_ack prefetch) =
     if is_same p k t place client tag then Some (record { queue = queue; no_ack = no_ack; prefetch = prefetch }) else was
 consumer_step p k t was (Cancelled place client tag) = if is_same p k t place client tag then None else was
 consumer_step p k t was (Closed place connection) = if same_place place p && k.connection == connection then None else was
+consumer_step p k t was (GoneQueue place queue) = if same_place place p && is_from queue was then None else was
 consumer_step p k t was _ = was
 
 -- the client's consumer of the tag

@@ -6,7 +6,7 @@ use Rattle.fed_journal.specs.declared.place.Place.{Place}
 use Rattle.amqp_props.specs.declared.link.QueueOptions.{QueueOptions}
 use Rattle.fed_journal.specs.declared.entry.Publication.{Publication}
 use Rattle.fed_journal.specs.declared.entry.Entry.{Entry}
-use Rattle.fed_journal.specs.declared.entry.Entry.TheVariants.{Published, Bound, Flushed, Took, Delivered, Acked, Rejected, Requeued, Purged, Closed, Settled}
+use Rattle.fed_journal.specs.declared.entry.Entry.TheVariants.{Published, GoneQueue, Bound, Flushed, Took, Delivered, Acked, Rejected, Requeued, Purged, Closed, Settled}
 use Rattle.fed_journal.specs.Configuration.{queue_options}
 use Rattle.fed_journal.specs.Messages.{is_persistent}
 use Rattle.fed_journal.specs.Names.{same_text, same_place}
@@ -130,7 +130,7 @@ abbrev pub closed : Place → ℕ → Standing → Standing
 closed p n (Held holder) = if is_connection p n holder then Ready else Held holder
 closed p n t = t
 
--- what an entry does with a copy of the publication that hasn't left its queue (AMQP 0-9-1, basic.deliver, basic.ack, basic.reject, queue.purge)
+-- what an entry does with a copy of the publication that hasn't left its queue (AMQP 0-9-1, basic.deliver, basic.ack, basic.reject, queue.purge, queue.delete)
 abbrev pub moved : ℕ → Publication → Standing → Entry → Standing
 moved c x t (Took link session copy) = if copy == c then Held (Session link session) else t
 moved c x t (Delivered place client tag queue copy no_ack) = if copy == c then handed no_ack (Channel place client tag) else t
@@ -139,6 +139,7 @@ moved c x t (Rejected place client copy) = if copy == c then Left else t
 moved c x t (Requeued place client copy) = if copy == c then Ready else t
 moved c x t (Settled link session copy) = if copy == c then Left else t
 moved c x t (Purged place queue) = if is_waiting t && is_home x c place queue then Left else t
+moved c x t (GoneQueue place queue) = if is_home x c place queue then Left else t
 moved c x t (Closed place connection) = closed place connection t
 moved c x t _ = t
 

@@ -77,6 +77,10 @@ copy_from J l s (Some p) = copy_of_publication l s (find_publication p J)
 abbrev pub confirmed_copy : List Entry → List ℕ → ℕ → Entry → Option ℕ
 confirmed_copy J l s e = copy_from J l s (confirmed_to l s e)
 
+-- taken and not removed at the source: what the session holds
+unfoldable pub flight_held : List Entry → List ℕ → ℕ → List ℕ
+flight_held J l s = filter (λ c. not (has (settled_for l s) c J)) (filter_map (taken_by l s) J)
+
 -- taken and not sent on
 unfoldable pub flight_took : List Entry → List ℕ → ℕ → List ℕ
 flight_took J l s = filter (λ c. not (has (sent_by l s) c J)) (filter_map (taken_by l s) J)

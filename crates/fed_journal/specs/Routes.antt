@@ -7,13 +7,13 @@ use Rattle.route_core.specs.declared.object.Node.TheVariants as nodes
 use Rattle.route_core.specs.declared.binding.Binding.{Binding}
 use Rattle.route_core.specs.Objects.{sort_of, has}
 use Rattle.route_core.specs.Bindings.{has_binding}
-use Rattle.route_core.specs.Routing.{Routing, predeclared, stands, with_object, with_binding, without_binding}
+use Rattle.route_core.specs.Routing.{Routing, predeclared, stands, with_object, without_object, with_binding, without_binding}
 use Rattle.route_core.specs.Routes.{routed_names}
 use Rattle.route_core.specs.Walks.{publish}
 use Rattle.amqp_props.specs.declared.message.Message.{Message}
 use Rattle.fed_journal.specs.declared.place.Place.{Place}
 use Rattle.fed_journal.specs.declared.entry.Entry.{Entry}
-use Rattle.fed_journal.specs.declared.entry.Entry.TheVariants.{MadeQueue, MadeExchange, Bound, Unbound}
+use Rattle.fed_journal.specs.declared.entry.Entry.TheVariants.{MadeQueue, MadeExchange, GoneQueue, Bound, Unbound}
 use Rattle.fed_journal.specs.Names.{same_place}
 use Rattle.fed_journal.specs.Messages.{headers_of}
 
@@ -44,16 +44,22 @@ unbound b r = if has_binding b r.bindings then without_binding b r else r
 abbrev pub site_of : Routing → ℕ → Site
 site_of routing queues = record { routing = routing; queues = queues }
 
+-- a queue that is gone takes its bindings with it (AMQP 0-9-1, queue.delete)
+abbrev pub gone : List ℕ → Routing → Routing
+gone queue r = if has sorts.Queue queue r.objects then without_object sorts.Queue queue r else r
+
 -- what an entry at that place does there
 abbrev pub site_at : Site → Entry → Site
-site_at s (MadeQueue place queue options) = site_of (made queue (nodes.Queue s.queues) s.routing) (s.queues + 1)
+site_at s (MadeQueue place queue options owner) = site_of (made queue (nodes.Queue s.queues) s.routing) (s.queues + 1)
 site_at s (MadeExchange place exchange shape) = site_of (made exchange (nodes.Exchange shape.kind) s.routing) s.queues
+site_at s (GoneQueue place queue) = site_of (gone queue s.routing) s.queues
 site_at s (Bound place binding) = site_of (bound binding s.routing) s.queues
 site_at s (Unbound place binding) = site_of (unbound binding s.routing) s.queues
 site_at s _ = s
 
 abbrev pub is_at : Place → Entry → Bool
-is_at p (MadeQueue place queue options) = same_place place p
+is_at p (MadeQueue place queue options owner) = same_place place p
+is_at p (GoneQueue place queue) = same_place place p
 is_at p (MadeExchange place exchange shape) = same_place place p
 is_at p (Bound place binding) = same_place place p
 is_at p (Unbound place binding) = same_place place p

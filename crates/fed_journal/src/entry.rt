@@ -42,12 +42,19 @@ pub enum Entry {
         place: Place,
         queue: Text,
         options: QueueOptions,
+        /// The connection that has an exclusive queue to itself.
+        owner: Option<u32>,
     },
     /// An exchange was declared.
     MadeExchange {
         place: Place,
         exchange: Text,
         shape: ExchangeShape,
+    },
+    /// A queue is gone, with its bindings, its consumers and its copies.
+    GoneQueue {
+        place: Place,
+        queue: Text,
     },
     /// A queue or an exchange was bound to an exchange.
     Bound {

@@ -2,6 +2,10 @@
 use crate::place::Place;
 use amqp_props::Text;
 
+/// How many copies a link's session may hold where nothing else is asked for (RabbitMQ, shovels:
+/// `src-prefetch-count`).
+pub const DEFAULT_PREFETCH: u16 = 1_000;
+
 /// When a link removes a copy from its source (RabbitMQ, shovels: `ack-mode`).
 #[derive(Clone, Copy)]
 pub enum AckMode {
@@ -41,4 +45,6 @@ pub struct LinkSpec {
     pub source_queue: Text,
     pub target_queue: Text,
     pub mode: AckMode,
+    /// How many copies a session may hold; 0 is no limit.
+    pub prefetch: u16,
 }

@@ -3,10 +3,10 @@ use Rattle.std.specs.Prelude.{ℕ, List, [], ◌++◌, Bool, true, false, not, i
 use Rattle.std.specs.Fmt.{decimal}
 use Rattle.fed_journal.specs.declared.place.Place.{Place}
 use Rattle.fed_journal.specs.declared.entry.Entry.{Entry}
-use Rattle.fed_journal.specs.declared.entry.Entry.TheVariants.{Begun, MadeQueue}
+use Rattle.fed_journal.specs.declared.entry.Entry.TheVariants.{Begun}
+use Rattle.fed_journal.specs.Configuration.{queues_of}
 use Rattle.fed_journal.specs.Copies.{entered, is_gone, is_stored}
 use Rattle.fed_journal.specs.Holds.{is_held, ready_count}
-use Rattle.fed_journal.specs.Names.{same_place}
 use Rattle.fed_journal.specs.Words.{word, place_word}
 
 -- each broker has the one virtual host `/` (RabbitMQ, Virtual Hosts)
@@ -17,15 +17,6 @@ place_begun _ = None
 -- the places of the run, in the order of its brokers
 unfoldable pub places_of : List Entry → List Place
 places_of J = filter_map place_begun J
-
--- the queue that was declared at the place by this entry
-abbrev pub queue_made : Place → Entry → Option (List ℕ)
-queue_made p (MadeQueue place queue options) = if same_place place p then Some queue else None
-queue_made p _ = None
-
--- the queues of a place, in the order of their declarations (AMQP 0-9-1, queue.declare)
-unfoldable pub queues_of : List Entry → Place → List (List ℕ)
-queues_of J p = filter_map (queue_made p) J
 
 -- how many copies of the queue are handed out and not acknowledged (RabbitMQ, Queues: metrics, messages_unacknowledged)
 unfoldable pub held_count : List Entry → Place → List ℕ → ℕ

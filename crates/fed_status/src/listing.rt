@@ -161,6 +161,7 @@ mod tests {
                 exclusive: false,
                 auto_delete: false,
             },
+            owner: None,
         })
     }
 

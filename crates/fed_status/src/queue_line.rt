@@ -1,8 +1,7 @@
 //! The lines of queues.
 ghost use Rattle.std.specs.Prelude.{◌≡◌, ◌++◌, All, IfOk, OnOk, flat_map};
-ghost use Rattle.std.specs.Option.{option_to_list};
 ghost use Rattle.fed_journal.specs.Copies.{IsFitting};
-ghost use Rattle.fed_status.specs.Queues.{held_count, queued, copy_word, mark_if, queue_line, queue_lines, queue_made};
+ghost use Rattle.fed_status.specs.Queues.{held_count, queued, copy_word, mark_if, queue_line, queue_lines};
 
 use amqp_props::Text;
 use fed_journal::entry::Entry;
@@ -10,6 +9,7 @@ use fed_journal::page::Page;
 use fed_journal::place::Place;
 use journal_scan::copies::{entered_by, is_gone, is_stored};
 use journal_scan::holds::{entered, is_held, ready_count};
+use journal_scan::owners::queues_of;
 use std::alloc::{AllocError, Global};
 
 /// How many copies of the queue are handed out and not acknowledged.
@@ -108,29 +108,25 @@ fn push_queue_line(
     page.push("\n")
 }
 
-/// Appends the line of the queue that the entry made at the place, if it made one.
-fn push_queue_made(
+/// Appends the lines of these queues of the place.
+fn push_lines_of(
     alloc: Global,
     journal: &[Entry],
     place: &Place,
-    entry: &Entry,
+    queues: &[Text],
     page: &mut Page,
 ) -> Result<(), AllocError>
     requires { All IsFitting journal.now }
-    ensures { OnOk result (page.new ≡ page.old ++ flat_map (queue_line journal.now place.now) (option_to_list (queue_made place.now entry.now))) }
+    ensures { OnOk result (page.new ≡ page.old ++ flat_map (queue_line journal.now place.now) queues.now) }
 {
-    match entry {
-        Entry::MadeQueue {
-            place: at,
-            queue,
-            ..
-        } if at == place => push_queue_line(alloc, journal, place, queue, page),
-        _ => Ok(()),
+    for queue in queues {
+        push_queue_line(alloc, journal, place, queue, page)?;
     }
+    Ok(())
 }
 
-/// Appends the lines of the place's queues, in the order of their declarations.
-#[tactic(auto, unfolding(crate::specs::Queues::queue_lines, crate::specs::Queues::queues_of))]
+/// Appends the lines of the place's queues, in the order of their making.
+#[tactic(auto, unfolding(crate::specs::Queues::queue_lines))]
 pub fn push_queue_lines(
     alloc: Global,
     journal: &[Entry],
@@ -140,8 +136,6 @@ pub fn push_queue_lines(
     requires { All IsFitting journal.now }
     ensures { OnOk result (page.new ≡ page.old ++ queue_lines journal.now place.now) }
 {
-    for entry in journal {
-        push_queue_made(alloc, journal, place, entry, page)?;
-    }
-    Ok(())
+    let queues = queues_of(alloc, journal, place)?;
+    push_lines_of(alloc, journal, place, queues.as_slice(), page)
 }

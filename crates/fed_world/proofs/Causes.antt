@@ -1,13 +1,18 @@
 -- What each entry needs in the journal before it.
-use Rattle.std.proofs.Common.{Bool, ◌≡◌, ℕ, List, [], ◌∷◌, ◌++◌, true, false, Some, sym, subst, append_assoc, append-nil}
+use Rattle.std.proofs.Common.{Bool, ◌≡◌, ℕ, List, [], ◌∷◌, ◌++◌, true, false, Option, Some, None, sym, subst, append_assoc, append-nil}
 use Rattle.std.specs.List.{list_any, list_all}
-use Rattle.std.specs.Prelude.{codes}
+use Rattle.std.specs.Prelude.{codes, not}
+use Rattle.amqp_props.specs.declared.link.QueueOptions.{QueueOptions}
+use Rattle.fed_journal.specs.declared.place.Place.{Place}
+use Rattle.fed_journal.specs.Configuration.{queue_options}
+use Rattle.fed_world.specs.Publish.{first_copy}
+use Rattle.fed_world.specs.Take.{first_ready_at}
 use Rattle.fed_journal.specs.declared.link.LinkSpec.{LinkSpec}
 use Rattle.fed_journal.specs.declared.entry.Publisher.{Publisher}
 use Rattle.fed_journal.specs.declared.entry.Publisher.TheVariants.{Client, Link}
 use Rattle.fed_journal.specs.declared.entry.Publication.{Publication}
 use Rattle.fed_journal.specs.declared.entry.Entry.{Entry}
-use Rattle.fed_journal.specs.declared.entry.Entry.TheVariants.{Begun, Opened, ShovelSet, Delivered, Acked, Rejected, Requeued, Took, Sent, Published, Confirmed, Noted, Settled}
+use Rattle.fed_journal.specs.declared.entry.Entry.TheVariants.{Begun, MadeQueue, GoneQueue, Opened, ShovelSet, Delivered, Acked, Rejected, Requeued, Took, Sent, Published, Confirmed, Noted, Settled}
 use Rattle.fed_journal.specs.Copies.{enters, is_secured, find_publication, publication_of}
 use Rattle.fed_journal.specs.Flight.{has, settled_for}
 use Rattle.fed_journal.specs.Holds.{is_ready, is_held_by}
@@ -48,6 +53,24 @@ abbrev pub CausedBy : List Entry → Publication → Publisher → Type 0
 CausedBy K x (Client client) = Unit {0}
 CausedBy K x (Link l s c) = PublishesCopy K x l s c
 
+-- the queue stands, and no connection has it to itself
+abbrev pub is_shared_in : Option QueueOptions → Bool
+is_shared_in None = false
+is_shared_in (Some options) = not options.exclusive
+
+abbrev pub is_shared : List Entry → Place → List ℕ → Bool
+is_shared K p q = is_shared_in (queue_options K p q)
+
+-- so does the queue that the link reads
+abbrev pub SharesSource : List Entry → LinkSpec → Type 0
+SharesSource K spec = (p : Place) → spec.source ≡ Some p → is_shared K p spec.source_queue ≡ true
+
+-- the copy is the one that the queue would hand to the link
+pub record TakesFirst (K : List Entry) (l : List ℕ) (c : ℕ) : Type 0 where
+  pub spec : LinkSpec
+  pub described : link_of K l ≡ Some spec
+  pub first : first_ready_at K spec.source spec.source_queue ≡ Some c
+
 -- a broker's beginning
 abbrev pub is_begun : Entry → Bool
 is_begun (Begun broker cluster kept) = true
@@ -56,14 +79,16 @@ is_begun _ = false
 abbrev pub Caused : List Entry → Entry → Type 0
 Caused K (Begun broker cluster kept) = list_all is_begun K ≡ true
 Caused K (ShovelSet place name shovel) = (same_text place.vhost (codes "/") ≡ true) × (is_shovel_set K place name ≡ false)
-Caused K (Opened l s ready) = (spec : LinkSpec) × (link_of K l ≡ Some spec)
-Caused K (Took l s c) = (list_any (enters c) K ≡ true) × (is_ready K c ≡ true) × WasOpened K l s
+Caused K (MadeQueue place queue options owner) = queue_options K place queue ≡ None
+Caused K (GoneQueue place queue) = is_shared K place queue ≡ false
+Caused K (Opened l s ready) = (spec : LinkSpec) × (link_of K l ≡ Some spec) × SharesSource K spec
+Caused K (Took l s c) = (list_any (enters c) K ≡ true) × (is_ready K c ≡ true) × WasOpened K l s × TakesFirst K l c
 Caused K (Delivered p k tag q c no_ack) = is_ready K c ≡ true
 Caused K (Acked p k c) = is_held_by K p k c ≡ true
 Caused K (Rejected p k c) = is_held_by K p k c ≡ true
 Caused K (Requeued p k c) = is_held_by K p k c ≡ true
 Caused K (Sent l s c) = (before : List Entry) × StandsAfter before (Took l s c) K
-Caused K (Published x) = CausedBy K x x.by
+Caused K (Published x) = CausedBy K x x.by × (x.first ≡ first_copy K x.queues)
 Caused K (Confirmed l s p) = (is_secured K p ≡ true) × IsPublishedFor K l s p
 Caused K (Noted l s c) = WasConfirmed K l s c
 Caused K (Settled l s c) = WasNoted K l s c

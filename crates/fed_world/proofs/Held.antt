@@ -7,13 +7,14 @@ use Rattle.fed_journal.specs.declared.place.Place.{Place}
 use Rattle.fed_journal.specs.declared.place.Client.{Client}
 use Rattle.fed_journal.specs.declared.entry.Publication.{Publication}
 use Rattle.fed_journal.specs.declared.entry.Entry.{Entry}
-use Rattle.fed_journal.specs.declared.entry.Entry.TheVariants.{Delivered, Acked, Rejected, Requeued, Took, Sent, Published, Confirmed, Noted, Settled}
+use Rattle.fed_journal.specs.declared.entry.Entry.TheVariants.{GoneQueue, Delivered, Acked, Rejected, Requeued, Took, Sent, Published, Confirmed, Noted, Settled}
 use Rattle.fed_journal.specs.Holders.{Session, Channel}
-use Rattle.fed_journal.specs.Copies.{Standing, Ready, Held, Left, enters, is_gone, is_left, publication_of, standing, standing_step, handed}
+use Rattle.fed_journal.specs.Copies.{Standing, Ready, Held, Left, enters, is_gone, is_home, is_left, publication_of, standing, standing_step, handed}
 use Rattle.fed_journal.specs.Flight.{has, settled_for, is_number}
 use Rattle.fed_journal.specs.Holds.{holder, holder_in, is_ready, is_held_by}
 use Rattle.fed_world.specs.Kept.{StandsAfter, IsMoved, RemovesHeld, HoldsTaken, is_alive}
 use Rattle.fed_world.proofs.Causes.{Caused, EachCaused, WasNoted, caused-append, caused-at}
+use Rattle.fed_world.proofs.Homes.{taken-home}
 use Rattle.fed_world.proofs.Inversions.{settled_for-same}
 use Rattle.fed_world.proofs.Lists.{IsIn, in-middle, in-longer, in-push_cases, in-split, any-middle}
 use Rattle.fed_world.proofs.Moved.{moved-at}
@@ -98,21 +99,23 @@ settled-stays : (b : Bool) (l : List ℕ) (s c : ℕ) (e : Entry) → (b ≡ tru
 settled-stays true l s c e h = inr (refl, h refl)
 settled-stays false l s c e h = inl refl
 
-held-stays : (K : List Entry) (x : Publication) (c : ℕ) (l : List ℕ) (s : ℕ) (e : Entry) → Taken K → EachCaused [] K → Caused K e → standing c K ≡ Held (Session l s) → Stays x c l s e
+held-stays : (K : List Entry) (x : Publication) (c : ℕ) (l : List ℕ) (s : ℕ) (e : Entry) → Taken K → EachCaused [] K → Caused K e → publication_of c K ≡ Some x → IsIn (Took l s c) K → standing c K ≡ Held (Session l s) → Stays x c l s e
 unfolding Stays
-held-stays K x c l s (Took k t d) taken caused cause held =
+held-stays K x c l s (GoneQueue p q) taken caused cause of_copy took held =
+    inl (other-stays (is_home x c p q) Left (Held (Session l s)) (λ h. true≢false (sym (taken-home K l s c x p q caused took of_copy h) ∙ cause)))
+held-stays K x c l s (Took k t d) taken caused cause of_copy took held =
     inl (other-stays (d == c) (Held (Session k t)) (Held (Session l s)) (λ h. held-not_ready K l s c d held (eqb-true d c h) cause.1))
-held-stays K x c l s (Delivered p k g q d no_ack) taken caused cause held =
+held-stays K x c l s (Delivered p k g q d no_ack) taken caused cause of_copy took held =
     inl (other-stays (d == c) (handed no_ack (Channel p k g)) (Held (Session l s)) (λ h. held-not_ready K l s c d held (eqb-true d c h) cause))
-held-stays K x c l s (Acked p k d) taken caused cause held =
+held-stays K x c l s (Acked p k d) taken caused cause of_copy took held =
     inl (other-stays (d == c) Left (Held (Session l s)) (λ h. held-not_client's K l s c d p k held (eqb-true d c h) cause))
-held-stays K x c l s (Rejected p k d) taken caused cause held =
+held-stays K x c l s (Rejected p k d) taken caused cause of_copy took held =
     inl (other-stays (d == c) Left (Held (Session l s)) (λ h. held-not_client's K l s c d p k held (eqb-true d c h) cause))
-held-stays K x c l s (Requeued p k d) taken caused cause held =
+held-stays K x c l s (Requeued p k d) taken caused cause of_copy took held =
     inl (other-stays (d == c) Ready (Held (Session l s)) (λ h. held-not_client's K l s c d p k held (eqb-true d c h) cause))
-held-stays K x c l s (Settled k t d) taken caused cause held =
+held-stays K x c l s (Settled k t d) taken caused cause of_copy took held =
     settled-stays (d == c) l s c (Settled k t d) (λ h. settled-by K k t d l s c taken caused cause held (eqb-true d c h))
-held-stays K x c l s _ taken caused cause held = inl refl
+held-stays K x c l s _ taken caused cause of_copy took held = inl refl
 
 entered-taken : (K : List Entry) → EachCaused [] K → (l : List ℕ) (s c : ℕ) → IsIn (Took l s c) K → list_any (enters c) K ≡ true
 entered-taken K caused l s c taken =
@@ -127,11 +130,11 @@ taken-held K e x l s c of_copy held (inl stays) =
 taken-held K e x l s c of_copy held (inr removed) =
     inr (standing-push c x K e of_copy ∙ ap (λ t. standing_step c x t e) held ∙ removed.0, subst (λ d. IsIn d (K ++ e ∷ [])) removed.1 (in-middle e K []))
 
-taken-old : (K : List Entry) (e : Entry) (x : Publication) (l : List ℕ) (s c : ℕ) → Taken K → EachCaused [] K → Caused K e → publication_of c K ≡ Some x → IsTakenBy K l s c → IsTakenBy (K ++ e ∷ []) l s c
+taken-old : (K : List Entry) (e : Entry) (x : Publication) (l : List ℕ) (s c : ℕ) → Taken K → EachCaused [] K → Caused K e → publication_of c K ≡ Some x → IsIn (Took l s c) K → IsTakenBy K l s c → IsTakenBy (K ++ e ∷ []) l s c
 unfolding IsTakenBy
-taken-old K e x l s c taken caused cause of_copy (inl held) =
-    taken-held K e x l s c of_copy held (held-stays K x c l s e taken caused cause held)
-taken-old K e x l s c taken caused cause of_copy (inr gone) =
+taken-old K e x l s c taken caused cause of_copy took (inl held) =
+    taken-held K e x l s c of_copy held (held-stays K x c l s e taken caused cause of_copy took held)
+taken-old K e x l s c taken caused cause of_copy took (inr gone) =
     inr (standing-push c x K e of_copy ∙ ap (λ t. standing_step c x t e) gone.0, in-longer (Settled l s c) K (e ∷ []) gone.1)
 
 -- a copy that is taken was ready, and is held by who takes it
@@ -145,7 +148,7 @@ taken-by : (K : List Entry) (e : Entry) → Taken K → EachCaused [] K → Caus
 unfolding Taken IsTakenBy
 taken-by K e taken caused cause l s c (inl h) =
     let x : (x : Publication) × (publication_of c K ≡ Some x) = published-of c K (entered-taken K caused l s c h) in
-    taken-old K e x.0 l s c taken caused cause x.1 (taken l s c h)
+    taken-old K e x.0 l s c taken caused cause x.1 h (taken l s c h)
 taken-by K e taken caused cause l s c (inr same) =
     inl (subst (λ d. standing c (K ++ d ∷ []) ≡ Held (Session l s)) (sym same) (taken-new K l s c (subst (Caused K) same cause)))
 

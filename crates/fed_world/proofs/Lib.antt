@@ -1,12 +1,14 @@
 pub mod Causes
 pub mod Described
 pub mod Held
+pub mod Homes
 pub mod Inversions
 pub mod LastOpened
 pub mod LimitLemmas
 pub mod LinkNames
 pub mod Lists
 pub mod Moved
+pub mod Queues
 pub mod Reached
 pub mod RowCaused
 pub mod RowFits

@@ -14,7 +14,7 @@ use Rattle.fed_journal.specs.Links.{link_of}
 use Rattle.fed_world.proofs.Described.{described-later}
 use Rattle.fed_world.proofs.LastOpened.{WasOpened}
 use Rattle.fed_world.specs.Kept.{StandsAfter, IsConfirmedFor, IsMoved}
-use Rattle.fed_world.proofs.Causes.{Caused, CausedBy, EachCaused, PublishesCopy, WasConfirmed, WasNoted, caused-at}
+use Rattle.fed_world.proofs.Causes.{Caused, CausedBy, SharesSource, EachCaused, PublishesCopy, WasConfirmed, WasNoted, caused-at}
 
 -- the publication of the number stands in the journal
 record FoundAt (p : ℕ) (K : List Entry) (x : Publication) : Type 0 where
@@ -69,7 +69,7 @@ moved-published J at_noted at_confirmed at_published l s c x noted confirmed pub
     let took : (before : List Entry) × StandsAfter before (Took l s c) p.before = sent.1 in
     let at : EachCaused [] took.0 × Caused took.0 (Took l s c) = caused-at p.before took.0 (Took l s c) sent.0 took.1 in
     let opened : WasOpened took.0 l s = at.1.2 in
-    let cause : (spec : LinkSpec) × (link_of opened.0 l ≡ Some spec) = (caused-at took.0 opened.0 (Opened l s opened.1) at.0 opened.2).1 in
+    let cause : (spec : LinkSpec) × (link_of opened.0 l ≡ Some spec) × SharesSource opened.0 spec = (caused-at took.0 opened.0 (Opened l s opened.1) at.0 opened.2).1 in
     let later : link_of at_published l ≡ Some cause.0 = described-later p.before (Sent l s c) at_published l cause.0 caused p.sent refl (described-later took.0 (Took l s c) p.before l cause.0 sent.0 took.1 refl (described-later opened.0 (Opened l s opened.1) took.0 l cause.0 at.0 opened.2 refl cause.1)) in
     record {
       at_opened = opened.0;
@@ -130,7 +130,7 @@ moved-confirmed J at_noted l s c noted caused w =
     let at : FoundAt x.number f.at_confirmed x = found-at x.number f.at_confirmed x f.found in
     let published : EachCaused [] at.before × Caused at.before (Published x) = caused-at f.at_confirmed at.before (Published x) f.caused at.stands in
     moved-published J at_noted f.at_confirmed at.before l s c x noted f.confirmed at.stands w.by f.found f.secured
-    published.0 (subst (CausedBy at.before x) w.by published.1)
+    published.0 (subst (CausedBy at.before x) w.by published.1.0)
 
 -- a copy that is removed went its whole way before
 pub moved-at : (J : List Entry) → EachCaused [] J → (K : List Entry) (l : List ℕ) (s c : ℕ) → StandsAfter K (Settled l s c) J → IsMoved K l s c

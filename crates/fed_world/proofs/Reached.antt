@@ -6,8 +6,9 @@ use Rattle.fed_journal.specs.declared.entry.Entry.{Entry}
 use Rattle.fed_world.specs.Step.{next, after}
 use Rattle.fed_world.specs.Run.{begin, run, last_journal, IsReached}
 use Rattle.fed_world.specs.Kept.{IsKept, LeavesStored, RemovesMoved, RemovesHeld}
-use Rattle.fed_world.proofs.RunKept.{run-kept}
-use Rattle.fed_world.proofs.Stored.{run-keeps_stored}
+use Rattle.fed_world.proofs.Causes.{EachCaused}
+use Rattle.fed_world.proofs.RunKept.{run-kept, begin-caused, last-caused}
+use Rattle.fed_world.proofs.Stored.{moment-keeps}
 
 -- a run with one more event
 last-after : (J : List Entry) (events : List (ℕ × Event)) (e : ℕ × Event) →
@@ -34,15 +35,18 @@ reached-moved J h = subst RemovesMoved (sym h.leads) (reached-kept J h).moved
 pub reached-held : (J : List Entry) → IsReached J → RemovesHeld J
 reached-held J h = subst RemovesHeld (sym h.leads) (reached-kept J h).held
 
-next-leaves_stored : (J : List Entry) (event : Event) → LeavesStored J event (after J (next J event))
-next-leaves_stored J event = (run-keeps_stored J ((0, event) ∷ [])).0
+reached-caused : (J : List Entry) → IsReached J → EachCaused [] J
+reached-caused J h = subst (EachCaused []) (sym h.leads) (last-caused (begin h.brokers) h.events (begin-caused [] h.brokers refl))
+
+next-leaves_stored : (J : List Entry) (event : Event) → IsReached J → LeavesStored J event (after J (next J event))
+next-leaves_stored J event h = moment-keeps J 0 event (reached-caused J h)
 
 -- K is the journal J with the entries of the event's row
 pub extended-reached : (J K es : List Entry) (event : Event) → IsReached J → Ok es ≡ next J event → K ≡ J ++ es → IsReached K
 extended-reached J K es event h row k = subst IsReached (ap (after J) (sym row) ∙ sym k) (after-reached J event h)
 
-pub extended-leaves_stored : (J K es : List Entry) (event : Event) → Ok es ≡ next J event → K ≡ J ++ es → LeavesStored J event K
-extended-leaves_stored J K es event row k = subst (LeavesStored J event) (ap (after J) (sym row) ∙ sym k) (next-leaves_stored J event)
+pub extended-leaves_stored : (J K es : List Entry) (event : Event) → IsReached J → Ok es ≡ next J event → K ≡ J ++ es → LeavesStored J event K
+extended-leaves_stored J K es event h row k = subst (LeavesStored J event) (ap (after J) (sym row) ∙ sym k) (next-leaves_stored J event h)
 
 pub same-leaves_stored : (J K : List Entry) (event : Event) → K ≡ J → LeavesStored J event K
 same-leaves_stored J K event k = subst (LeavesStored J event) (sym k) (λ h c alive stored. (alive, stored))

@@ -1,7 +1,7 @@
 -- Each row brings entries that fit.
 use Rattle.std.proofs.Common.{ℕ, ◌+◌, ◌≤◌, ◌<◌, ◌^◌, List, [], ◌∷◌, ◌++◌, length, Bool, true, false, Option, Some, None, arith, sym, subst, append_assoc, length-append}
 use Rattle.std.proofs.lemmas.List.Elements.{All-head, All-tail}
-use Rattle.std.specs.Prelude.{All, Ok, Err, not, ◌&&◌, if◌then◌else◌, find}
+use Rattle.std.specs.Prelude.{All, Ok, Err, not, ◌&&◌, if◌then◌else◌, find, map}
 use Rattle.fed_journal.specs.declared.place.Place.{Place}
 use Rattle.amqp_props.specs.declared.message.Message.{Message}
 use Rattle.fed_journal.specs.declared.event.Event.{Event}
@@ -14,7 +14,7 @@ use Rattle.fed_journal.specs.declared.entry.Publisher.{Publisher}
 use Rattle.fed_journal.specs.declared.entry.Publisher.TheVariants.{Client, Link}
 use Rattle.fed_journal.specs.declared.entry.Publication.{Publication}
 use Rattle.fed_journal.specs.declared.entry.Entry.{Entry}
-use Rattle.fed_journal.specs.declared.entry.Entry.TheVariants.{MadeQueue, Published, Flushed, ShovelSet, Opened}
+use Rattle.fed_journal.specs.declared.entry.Entry.TheVariants.{MadeQueue, GoneQueue, Closed, Published, Flushed, ShovelSet, Opened}
 use Rattle.fed_journal.specs.Configuration.{is_place, is_broker}
 use Rattle.fed_journal.specs.Names.{is_reserved}
 use Rattle.fed_journal.specs.Copies.{copy_count, publication_of, is_copy_of, is_secured}
@@ -26,7 +26,7 @@ use Rattle.fed_journal.specs.Outgoing.{outgoing}
 use Rattle.fed_journal.specs.Flight.{flight_took, flight_sent, flight_published, flight_confirmed, flight_noted}
 use Rattle.fed_world.specs.declared.reason.Reason.{Reason}
 use Rattle.fed_world.specs.declared.reason.Reason.TheVariants as why
-use Rattle.fed_world.specs.Row.{Row, at_place, with_link, with_spec, while_open, unless_refused, queue_refusal, channel_of, one_or_empty, oldest}
+use Rattle.fed_world.specs.Row.{Row, at_place, with_link, with_spec, while_open, unless_refused, lock_refusal, queue_refusal, channel_of, one_or_empty, oldest}
 use Rattle.fed_world.specs.Answer.{answer_refusal, ack_row, reject_row, requeue_row}
 use Rattle.fed_world.specs.Consume.{consumes, consume_row, cancel_row}
 use Rattle.fed_world.specs.Deliver.{is_busy, deliver_to, deliver_row}
@@ -43,8 +43,8 @@ use Rattle.fed_journal.specs.Routes.{is_bound, routes}
 use Rattle.fed_world.specs.Bind.{bind_refusal, bind_row, unbind_row}
 use Rattle.fed_world.specs.Flush.{flush_row}
 use Rattle.fed_world.specs.SetShovel.{set_shovel_row}
-use Rattle.fed_world.specs.Open.{open_row, opened, open_if_startable, made_if, is_target_missing}
-use Rattle.fed_world.specs.Take.{take_row, first_ready_at}
+use Rattle.fed_world.specs.Open.{open_row, opened, is_source_locked, open_if_startable, made_if, is_target_missing}
+use Rattle.fed_world.specs.Take.{take_row, is_full, first_ready_at}
 use Rattle.fed_world.specs.Send.{send_row}
 use Rattle.fed_world.specs.Accept.{accept_row, accept_first, accepted}
 use Rattle.fed_world.specs.Confirm.{confirm_row, confirm_first, confirmed}
@@ -86,7 +86,7 @@ either-fits J false yes' no' h k = k
 get_row-fits : (J : List Entry) (p : Place) (client : ℕ) (q : List ℕ) (no_ack : Bool) → RowFits J (get_row J p client q no_ack)
 unfolding get_row
 get_row-fits J p client q no_ack =
-    at_place-fits J p _ (unless_refused-fits J (queue_refusal J p q) _ (one_or_empty-fits J _ (first_ready J p q) (λ m. tt)))
+    at_place-fits J p _ (unless_refused-fits J (queue_refusal J p client q) _ (one_or_empty-fits J _ (first_ready J p q) (λ m. tt)))
 
 deliver_to-fits : (J : List Entry) (p : Place) (client : ℕ) (tag : List ℕ) (o : Option Consumer) → RowFits J (deliver_to J p client tag o)
 deliver_to-fits J p client tag None = tt
@@ -111,19 +111,23 @@ requeue_row-fits J p client c = unless_refused-fits J (answer_refusal J p client
 consume_row-fits : (J : List Entry) (p : Place) (client : ℕ) (q tag : List ℕ) (no_ack : Bool) (prefetch : ℕ) → RowFits J (consume_row J p client q tag no_ack prefetch)
 unfolding consume_row
 consume_row-fits J p client q tag no_ack prefetch =
-    at_place-fits J p _ (unless_refused-fits J (queue_refusal J p q) _ (either-fits J (consumes J p client tag) _ _ tt (tt, tt)))
+    at_place-fits J p _ (unless_refused-fits J (queue_refusal J p client q) _ (either-fits J (consumes J p client tag) _ _ tt (tt, tt)))
 
 cancel_row-fits : (J : List Entry) (p : Place) (client : ℕ) (tag : List ℕ) → RowFits J (cancel_row J p client tag)
 unfolding cancel_row
 cancel_row-fits J p client tag = at_place-fits J p _ (either-fits J (consumes J p client tag) _ (Ok []) (tt, tt) tt)
 
-purge_row-fits : (J : List Entry) (p : Place) (q : List ℕ) → RowFits J (purge_row J p q)
+purge_row-fits : (J : List Entry) (p : Place) (client : ℕ) (q : List ℕ) → RowFits J (purge_row J p client q)
 unfolding purge_row
-purge_row-fits J p q = at_place-fits J p _ (unless_refused-fits J (queue_refusal J p q) _ (tt, tt))
+purge_row-fits J p client q = at_place-fits J p _ (unless_refused-fits J (queue_refusal J p client q) _ (tt, tt))
+
+gone-fits : (J : List Entry) (p : Place) (qs : List (List ℕ)) → EachFits J (map (GoneQueue p) qs)
+gone-fits J p [] = tt
+gone-fits J p (q ∷ qs) = (tt, gone-fits (J ++ GoneQueue p q ∷ []) p qs)
 
 close_row-fits : (J : List Entry) (p : Place) (client : ℕ) → RowFits J (close_row J p client)
 unfolding close_row
-close_row-fits J p client = at_place-fits J p _ (tt, tt)
+close_row-fits J p client = at_place-fits J p _ (tt, gone-fits (J ++ Closed p client ∷ []) p (queues_owned J p client))
 
 flush_row-fits : (J : List Entry) (b : List ℕ) → RowFits J (flush_row J b)
 unfolding flush_row
@@ -135,14 +139,14 @@ set_shovel_row-fits J p name shovel =
     at_place-fits J p _
     (elim (is_shovel_set J p name) as (λ v. RowFits J (if v then Ok [] else Ok (ShovelSet p name shovel ∷ []))) [ true ↦ tt | false ↦ (tt, tt) ])
 
-declared_queue-fits : (J : List Entry) (p : Place) (q : List ℕ) (options : QueueOptions) (was : Option QueueOptions) → RowFits J (declared_queue p q options was)
-declared_queue-fits J p q options None = (tt, tt)
-declared_queue-fits J p q options (Some was) = either-fits J (same_options was options) (Ok []) (Err (why.Refused 406)) tt tt
+declared_queue-fits : (J : List Entry) (p : Place) (client : ℕ) (q : List ℕ) (options : QueueOptions) (was : Option QueueOptions) → RowFits J (declared_queue p client q options was)
+declared_queue-fits J p client q options None = (tt, tt)
+declared_queue-fits J p client q options (Some was) = either-fits J (same_options was options) (Ok []) (Err (why.Refused 406)) tt tt
 
-declare_row-fits : (J : List Entry) (p : Place) (q : List ℕ) (options : QueueOptions) → RowFits J (declare_row J p q options)
+declare_row-fits : (J : List Entry) (p : Place) (client : ℕ) (q : List ℕ) (options : QueueOptions) → RowFits J (declare_row J p client q options)
 unfolding declare_row
-declare_row-fits J p q options =
-    at_place-fits J p _ (either-fits J (is_refused J p q) _ _ tt (declared_queue-fits J p q options (queue_options J p q)))
+declare_row-fits J p client q options =
+    at_place-fits J p _ (either-fits J (is_refused J p q) _ _ tt (unless_refused-fits J (lock_refusal J p client q) _ (declared_queue-fits J p client q options (queue_options J p q))))
 
 declared_exchange-fits : (J : List Entry) (p : Place) (x : List ℕ) (shape : ExchangeShape) (was : Option ExchangeShape) → RowFits J (declared_exchange p x shape was)
 declared_exchange-fits J p x shape None = (tt, tt)
@@ -153,15 +157,15 @@ unfolding declare_exchange_row
 declare_exchange_row-fits J p x shape =
     at_place-fits J p _ (either-fits J (is_exchange_refused J p x) _ _ tt (declared_exchange-fits J p x shape (exchange_shape J p x)))
 
-bind_row-fits : (J : List Entry) (p : Place) (b : Binding) → IsTable b.args → RowFits J (bind_row J p b)
+bind_row-fits : (J : List Entry) (p : Place) (client : ℕ) (b : Binding) → IsTable b.args → RowFits J (bind_row J p client b)
 unfolding bind_row
-bind_row-fits J p b t =
-    at_place-fits J p _ (unless_refused-fits J (bind_refusal J p b) _ (either-fits J (is_bound J p b) (Ok []) _ tt (t, tt)))
+bind_row-fits J p client b t =
+    at_place-fits J p _ (unless_refused-fits J (bind_refusal J p client b) _ (either-fits J (is_bound J p b) (Ok []) _ tt (t, tt)))
 
-unbind_row-fits : (J : List Entry) (p : Place) (b : Binding) → RowFits J (unbind_row J p b)
+unbind_row-fits : (J : List Entry) (p : Place) (client : ℕ) (b : Binding) → RowFits J (unbind_row J p client b)
 unfolding unbind_row
-unbind_row-fits J p b =
-    at_place-fits J p _ (unless_refused-fits J (bind_refusal J p b) _ (either-fits J (is_bound J p b) _ (Ok []) (tt, tt) tt))
+unbind_row-fits J p client b =
+    at_place-fits J p _ (unless_refused-fits J (bind_refusal J p client b) _ (either-fits J (is_bound J p b) _ (Ok []) (tt, tt) tt))
 
 -- copies of a message in so many queues have numbers that fit
 routes-fit : (J : List Entry) (queues : List (List ℕ)) → length queues ≤ 2 ^ 32 → copy_count J < 2 ^ 63 → first_copy J queues + length queues < 2 ^ 64
@@ -222,7 +226,7 @@ confirm_row-fits J l = with_link-fits J l _ (λ spec. while_open-fits J l _ (con
 
 take_row-fits : (J : List Entry) (l : List ℕ) → RowFits J (take_row J l)
 unfolding take_row
-take_row-fits J l = with_link-fits J l _ (λ spec. while_open-fits J l _ (one_or_empty-fits J _ (first_ready_at J spec.source spec.source_queue) (λ m. tt)))
+take_row-fits J l = with_link-fits J l _ (λ spec. while_open-fits J l _ (either-fits J (is_full J spec (session J l)) (Err why.Full) _ tt (one_or_empty-fits J _ (first_ready_at J spec.source spec.source_queue) (λ m. tt))))
 
 send_row-fits : (J : List Entry) (l : List ℕ) → RowFits J (send_row J l)
 unfolding send_row
@@ -238,7 +242,7 @@ settle_row-fits J l = with_link-fits J l _ (λ spec. while_open-fits J l _ (one_
 
 -- a declaration fits, and so does what follows it
 made_if-fits : (J : List Entry) (missing : Bool) (p : Place) (q : List ℕ) (es : List Entry) → ((K : List Entry) → length J ≤ length K → EachFits K es) → EachFits J (made_if missing p q ++ es)
-made_if-fits J true p q es h = (tt, h (J ++ MadeQueue p q lasting ∷ []) (simp length-append (omega arith)))
+made_if-fits J true p q es h = (tt, h (J ++ MadeQueue p q lasting None ∷ []) (simp length-append (omega arith)))
 made_if-fits J false p q es h = h J (omega arith)
 
 opened-fits : (J : List Entry) (spec : LinkSpec) (source target : Option Place) → session J spec.name ≤ length J → RowFits J (opened J spec source target)
@@ -253,7 +257,8 @@ open_if_startable-fits : (J : List Entry) (spec : LinkSpec) (state : StartState)
 open_if_startable-fits J spec NoBroker h = tt
 open_if_startable-fits J spec NameTooLong h = tt
 open_if_startable-fits J spec Start h =
-    elim (is_open (phase J spec.name)) as (λ v. RowFits J (if v then Err why.Live else opened J spec spec.source spec.target)) [ true ↦ tt | false ↦ opened-fits J spec spec.source spec.target h ]
+    either-fits J (is_open (phase J spec.name)) (Err why.Live) _ tt
+    (either-fits J (is_source_locked J spec.source spec.source_queue) (Err why.NoSource) (opened J spec spec.source spec.target) tt (opened-fits J spec spec.source spec.target h))
 
 open_row-fits : (J : List Entry) (l : List ℕ) → ((k : List ℕ) → session J k ≤ length J) → RowFits J (open_row J l)
 unfolding open_row
@@ -261,10 +266,10 @@ open_row-fits J l h = with_link-fits J l _ (λ spec. open_if_startable-fits J sp
 
 -- whatever the event, its entries fit
 pub next-fits : (J : List Entry) (e : Event) → IsWritable e → length J ≤ MAX_ENTRIES → copy_count J < 2 ^ 63 → ((k : List ℕ) → session J k ≤ length J) → All IsSized J → RowFits J (next J e)
-next-fits J (DeclareQueue p c q options) w within small h sized = declare_row-fits J p q options
+next-fits J (DeclareQueue p c q options) w within small h sized = declare_row-fits J p c q options
 next-fits J (DeclareExchange p c x shape) w within small h sized = declare_exchange_row-fits J p x shape
-next-fits J (Bind p c b) w within small h sized = bind_row-fits J p b w
-next-fits J (Unbind p c b) w within small h sized = unbind_row-fits J p b
+next-fits J (Bind p c b) w within small h sized = bind_row-fits J p c b w
+next-fits J (Unbind p c b) w within small h sized = unbind_row-fits J p c b
 next-fits J (Publish p c m) w within small h sized = publish_row-fits J p c m w within small
 next-fits J (Consume p client q tag no_ack prefetch) w within small h sized = consume_row-fits J p client q tag no_ack prefetch
 next-fits J (Cancel p client tag) w within small h sized = cancel_row-fits J p client tag
@@ -273,7 +278,7 @@ next-fits J (Get p client q no_ack) w within small h sized = get_row-fits J p cl
 next-fits J (Ack p client c) w within small h sized = ack_row-fits J p client c
 next-fits J (Reject p client c) w within small h sized = reject_row-fits J p client c
 next-fits J (Requeue p client c) w within small h sized = requeue_row-fits J p client c
-next-fits J (Purge p client q) w within small h sized = purge_row-fits J p q
+next-fits J (Purge p client q) w within small h sized = purge_row-fits J p client q
 next-fits J (Close p client) w within small h sized = close_row-fits J p client
 next-fits J (Flush b) w within small h sized = flush_row-fits J b
 next-fits J (SetShovel p name shovel) w within small h sized = set_shovel_row-fits J p name shovel

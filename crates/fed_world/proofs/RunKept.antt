@@ -17,17 +17,13 @@ use Rattle.fed_world.proofs.Moved.{moved-at}
 use Rattle.fed_world.proofs.RowCaused.{next-caused}
 use Rattle.fed_world.proofs.RowHas.{RowHas}
 use Rattle.fed_world.proofs.Stages.{follows-stages}
-use Rattle.fed_world.proofs.Stored.{run-keeps_stored}
+use Rattle.fed_world.proofs.Stored.{after-caused, run-keeps_stored}
 
-begin-caused : (K : List Entry) (brokers : List (List ℕ)) → list_all is_begun K ≡ true → EachCaused K (begin brokers)
+pub begin-caused : (K : List Entry) (brokers : List (List ℕ)) → list_all is_begun K ≡ true → EachCaused K (begin brokers)
 begin-caused K [] h = tt
 begin-caused K (b ∷ bs) h = (h, begin-caused (K ++ begun b ∷ []) bs (list_all-append is_begun K (begun b ∷ []) ∙ ap (λ v. v && true) h))
 
-after-caused : (J : List Entry) (row : Row) → EachCaused [] J → RowHas (EachCaused J) row → EachCaused [] (after J row)
-after-caused J (Ok es) caused h = caused-append [] J es caused h
-after-caused J (Err reason) caused h = caused
-
-last-caused : (J : List Entry) (events : List (ℕ × Event)) → EachCaused [] J → EachCaused [] (last_journal J (run J events))
+pub last-caused : (J : List Entry) (events : List (ℕ × Event)) → EachCaused [] J → EachCaused [] (last_journal J (run J events))
 last-caused J [] caused = caused
 last-caused J (e ∷ es) caused = last-caused (after J (next J e.1)) es (after-caused J (next J e.1) caused (next-caused J e.1))
 
@@ -42,7 +38,7 @@ run-kept brokers events =
     let J : List Entry = last_journal (begin brokers) (run (begin brokers) events) in
     let caused : EachCaused [] J = last-caused (begin brokers) events (begin-caused [] brokers refl) in
     record {
-      stored = run-keeps_stored (begin brokers) events;
+      stored = run-keeps_stored (begin brokers) events (begin-caused [] brokers refl);
       moved = λ K l s c stands mode. moved-at J caused K l s c stands;
       held = held-at J caused;
       holds = each-holds (begin brokers) events (begin-caused [] brokers refl);

@@ -1,6 +1,6 @@
 -- No event but a removal appends an entry by which a copy is gone.
 use Rattle.std.proofs.Common.{◌≡◌, ℕ, ◌+◌, List, [], ◌∷◌, ◌++◌, Bool, true, false, Option, Some, None, refl, sym, subst, ap, ◌∙◌, append_assoc}
-use Rattle.std.specs.Prelude.{Ok, Err, not, cond, ◌==◌, find}
+use Rattle.std.specs.Prelude.{Ok, Err, not, cond, ◌==◌, find, map}
 use Rattle.std.proofs.lemmas.Bool.{true≢false}
 use Rattle.fed_journal.specs.declared.place.Place.{Place}
 use Rattle.fed_journal.specs.declared.event.Event.{Event}
@@ -11,16 +11,16 @@ use Rattle.fed_journal.specs.declared.link.StartState.{StartState}
 use Rattle.fed_journal.specs.declared.link.StartState.TheVariants.{Start, NoBroker, NameTooLong}
 use Rattle.fed_journal.specs.declared.entry.Publication.{Publication}
 use Rattle.fed_journal.specs.declared.entry.Entry.{Entry}
-use Rattle.fed_journal.specs.declared.entry.Entry.TheVariants.{MadeQueue, Opened, Flushed, ShovelSet}
-use Rattle.fed_journal.specs.Configuration.{is_broker}
-use Rattle.fed_journal.specs.Copies.{Standing, Unknown, Ready, Held, Left, is_left, closed, standing_step, publication_of, is_secured}
+use Rattle.fed_journal.specs.declared.entry.Entry.TheVariants.{MadeQueue, GoneQueue, Opened, Flushed, ShovelSet}
+use Rattle.fed_journal.specs.Configuration.{is_broker, queues_owned}
+use Rattle.fed_journal.specs.Copies.{Standing, Unknown, Ready, Held, Left, is_left, is_home, closed, standing_step, publication_of, is_secured}
 use Rattle.fed_journal.specs.Holders.{is_connection}
 use Rattle.fed_journal.specs.Links.{is_shovel_set}
 use Rattle.fed_journal.specs.Phases.{phase, session, is_open}
 use Rattle.fed_journal.specs.Holds.{ready_count}
 use Rattle.fed_journal.specs.Flight.{flight_took, flight_sent, flight_published, flight_confirmed}
 use Rattle.fed_world.specs.declared.reason.Reason.TheVariants as why
-use Rattle.fed_world.specs.Row.{oldest, queue_refusal}
+use Rattle.fed_world.specs.Row.{oldest, lock_refusal, queue_refusal}
 use Rattle.fed_world.specs.Answer.{answer_refusal, requeue_row}
 use Rattle.fed_world.specs.Consume.{consumes, consume_row, cancel_row}
 use Rattle.fed_world.specs.Close.{close_row}
@@ -35,7 +35,7 @@ use Rattle.fed_journal.specs.Routes.{is_bound}
 use Rattle.fed_world.specs.Bind.{bind_refusal, bind_row, unbind_row}
 use Rattle.fed_world.specs.Flush.{flush_row}
 use Rattle.fed_world.specs.SetShovel.{set_shovel_row}
-use Rattle.fed_world.specs.Open.{open_row, opened, open_if_startable, made_if, is_target_missing}
+use Rattle.fed_world.specs.Open.{open_row, opened, is_source_locked, open_if_startable, made_if, is_target_missing}
 use Rattle.fed_world.specs.Send.{send_row}
 use Rattle.fed_world.specs.Accept.{accept_row, accept_first, accepted}
 use Rattle.fed_world.specs.Confirm.{confirm_row, confirm_first, confirmed}
@@ -44,9 +44,14 @@ use Rattle.fed_world.specs.Step.{next}
 use Rattle.fed_world.specs.Kept.{is_removal}
 use Rattle.fed_world.proofs.RowHas.{RowHas, unless_refused-has, either-has, at_place-has, with_link-has, while_open-has, one_or_empty-has}
 
--- the entry takes no copy out of its queue
+-- the copy's queue goes
+abbrev pub takes_away : ℕ → Publication → Entry → Bool
+takes_away c x (GoneQueue place queue) = is_home x c place queue
+takes_away c x _ = false
+
+-- the entry takes no copy out of its queue, unless the queue goes
 abbrev pub SparesEach : Entry → Type 0
-SparesEach e = (c : ℕ) (x : Publication) (t : Standing) → is_left t ≡ false → is_left (standing_step c x t e) ≡ false
+SparesEach e = (c : ℕ) (x : Publication) (t : Standing) → is_left t ≡ false → takes_away c x e ≡ false → is_left (standing_step c x t e) ≡ false
 
 -- none of the entries does
 abbrev pub Spares : List Entry → Type 0
@@ -72,8 +77,17 @@ closed-stays p n Left h = h
 ended : (p : Place) (n : ℕ) (t : Standing) → is_left t ≡ false → is_left (cond (is_left t) Left (closed p n t)) ≡ false
 ended p n t h = ap (λ b. is_left (cond b Left (closed p n t))) h ∙ closed-stays p n t h
 
+-- one by which another queue goes
+away : (t : Standing) (b : Bool) → is_left t ≡ false → b ≡ false → is_left (cond (is_left t) Left (cond b Left t)) ≡ false
+away t true h stay = absurd (true≢false stay)
+away t false h stay = stays t h
+
+gone-spares : (p : Place) (qs : List (List ℕ)) → Spares (map (GoneQueue p) qs)
+gone-spares p [] = tt
+gone-spares p (q ∷ qs) = (λ c y t h stay. away t (is_home y c p q) h stay, gone-spares p qs)
+
 accepted-spares : (J : List Entry) (spec : LinkSpec) (c : ℕ) (target : Option Place) (x : Option Publication) → RowHas Spares (accepted J spec c target x)
-accepted-spares J spec c (Some target) (Some x) = (λ d y t h. stays t h, tt)
+accepted-spares J spec c (Some target) (Some x) = (λ d y t h stay. stays t h, tt)
 accepted-spares J spec c (Some target) None = tt
 accepted-spares J spec c None x = tt
 
@@ -88,7 +102,7 @@ accept_row-spares J l =
 
 confirmed-spares : (l : List ℕ) (s : ℕ) (o : Option ℕ) → RowHas Spares (confirmed l s o)
 confirmed-spares l s None = tt
-confirmed-spares l s (Some p) = (λ d y t h. stays t h, tt)
+confirmed-spares l s (Some p) = (λ d y t h stay. stays t h, tt)
 
 confirm_first-spares : (J : List Entry) (l : List ℕ) (s : ℕ) (ps : List ℕ) → RowHas Spares (confirm_first J l s ps)
 confirm_first-spares J l s [] = tt
@@ -102,37 +116,37 @@ confirm_row-spares J l =
 send_row-spares : (J : List Entry) (l : List ℕ) → RowHas Spares (send_row J l)
 unfolding send_row
 send_row-spares J l =
-    with_link-has Spares J l _ (λ spec d. while_open-has Spares J l _ (one_or_empty-has Spares _ (oldest (flight_took J l (session J l))) (λ n e. (λ c y t h. stays t h, tt))))
+    with_link-has Spares J l _ (λ spec d. while_open-has Spares J l _ (one_or_empty-has Spares _ (oldest (flight_took J l (session J l))) (λ n e. (λ c y t h stay. stays t h, tt))))
 
 note_row-spares : (J : List Entry) (l : List ℕ) → RowHas Spares (note_row J l)
 unfolding note_row
 note_row-spares J l =
-    with_link-has Spares J l _ (λ spec d. while_open-has Spares J l _ (one_or_empty-has Spares _ (oldest (flight_confirmed J l (session J l))) (λ n e. (λ c y t h. stays t h, tt))))
+    with_link-has Spares J l _ (λ spec d. while_open-has Spares J l _ (one_or_empty-has Spares _ (oldest (flight_confirmed J l (session J l))) (λ n e. (λ c y t h stay. stays t h, tt))))
 
 flush_row-spares : (J : List Entry) (b : List ℕ) → RowHas Spares (flush_row J b)
 unfolding flush_row
-flush_row-spares J b = either-has Spares (is_broker J b) (Ok (Flushed b ∷ [])) (Err why.NoPlace) (λ c y t h. stays t h, tt) tt
+flush_row-spares J b = either-has Spares (is_broker J b) (Ok (Flushed b ∷ [])) (Err why.NoPlace) (λ c y t h stay. stays t h, tt) tt
 
 publish_row-spares : (J : List Entry) (p : Place) (client : ℕ) (m : Message) → RowHas Spares (publish_row J p client m)
 unfolding publish_row
-publish_row-spares J p client m = at_place-has Spares J p _ (unless_refused-has Spares (publish_refusal J p m.exchange) _ (λ c y t h. stays t h, tt))
+publish_row-spares J p client m = at_place-has Spares J p _ (unless_refused-has Spares (publish_refusal J p m.exchange) _ (λ c y t h stay. stays t h, tt))
 
 set_shovel_row-spares : (J : List Entry) (p : Place) (name : List ℕ) (shovel : Shovel) → RowHas Spares (set_shovel_row J p name shovel)
 unfolding set_shovel_row
 set_shovel_row-spares J p name shovel =
-    at_place-has Spares J p _ (either-has Spares (is_shovel_set J p name) (Ok []) (Ok (ShovelSet p name shovel ∷ [])) tt (λ c y t h. stays t h, tt))
+    at_place-has Spares J p _ (either-has Spares (is_shovel_set J p name) (Ok []) (Ok (ShovelSet p name shovel ∷ [])) tt (λ c y t h stay. stays t h, tt))
 
-declared_queue-spares : (p : Place) (q : List ℕ) (options : QueueOptions) (was : Option QueueOptions) → RowHas Spares (declared_queue p q options was)
-declared_queue-spares p q options None = (λ c y t h. stays t h, tt)
-declared_queue-spares p q options (Some was) = either-has Spares (same_options was options) (Ok []) (Err (why.Refused 406)) tt tt
+declared_queue-spares : (p : Place) (client : ℕ) (q : List ℕ) (options : QueueOptions) (was : Option QueueOptions) → RowHas Spares (declared_queue p client q options was)
+declared_queue-spares p client q options None = (λ c y t h stay. stays t h, tt)
+declared_queue-spares p client q options (Some was) = either-has Spares (same_options was options) (Ok []) (Err (why.Refused 406)) tt tt
 
-declare_row-spares : (J : List Entry) (p : Place) (q : List ℕ) (options : QueueOptions) → RowHas Spares (declare_row J p q options)
+declare_row-spares : (J : List Entry) (p : Place) (client : ℕ) (q : List ℕ) (options : QueueOptions) → RowHas Spares (declare_row J p client q options)
 unfolding declare_row
-declare_row-spares J p q options =
-    at_place-has Spares J p _ (either-has Spares (is_refused J p q) _ _ tt (declared_queue-spares p q options (queue_options J p q)))
+declare_row-spares J p client q options =
+    at_place-has Spares J p _ (either-has Spares (is_refused J p q) _ _ tt (unless_refused-has Spares (lock_refusal J p client q) _ (declared_queue-spares p client q options (queue_options J p q))))
 
 declared_exchange-spares : (p : Place) (x : List ℕ) (shape : ExchangeShape) (was : Option ExchangeShape) → RowHas Spares (declared_exchange p x shape was)
-declared_exchange-spares p x shape None = (λ c y t h. stays t h, tt)
+declared_exchange-spares p x shape None = (λ c y t h stay. stays t h, tt)
 declared_exchange-spares p x shape (Some was) = either-has Spares (same_shape was shape) (Ok []) (Err (why.Refused 406)) tt tt
 
 declare_exchange_row-spares : (J : List Entry) (p : Place) (x : List ℕ) (shape : ExchangeShape) → RowHas Spares (declare_exchange_row J p x shape)
@@ -140,26 +154,26 @@ unfolding declare_exchange_row
 declare_exchange_row-spares J p x shape =
     at_place-has Spares J p _ (either-has Spares (is_exchange_refused J p x) _ _ tt (declared_exchange-spares p x shape (exchange_shape J p x)))
 
-bind_row-spares : (J : List Entry) (p : Place) (b : Binding) → RowHas Spares (bind_row J p b)
+bind_row-spares : (J : List Entry) (p : Place) (client : ℕ) (b : Binding) → RowHas Spares (bind_row J p client b)
 unfolding bind_row
-bind_row-spares J p b =
-    at_place-has Spares J p _ (unless_refused-has Spares (bind_refusal J p b) _ (either-has Spares (is_bound J p b) (Ok []) _ tt (λ c y t h. stays t h, tt)))
+bind_row-spares J p client b =
+    at_place-has Spares J p _ (unless_refused-has Spares (bind_refusal J p client b) _ (either-has Spares (is_bound J p b) (Ok []) _ tt (λ c y t h stay. stays t h, tt)))
 
-unbind_row-spares : (J : List Entry) (p : Place) (b : Binding) → RowHas Spares (unbind_row J p b)
+unbind_row-spares : (J : List Entry) (p : Place) (client : ℕ) (b : Binding) → RowHas Spares (unbind_row J p client b)
 unfolding unbind_row
-unbind_row-spares J p b =
-    at_place-has Spares J p _ (unless_refused-has Spares (bind_refusal J p b) _ (either-has Spares (is_bound J p b) _ (Ok []) (λ c y t h. stays t h, tt) tt))
+unbind_row-spares J p client b =
+    at_place-has Spares J p _ (unless_refused-has Spares (bind_refusal J p client b) _ (either-has Spares (is_bound J p b) _ (Ok []) (λ c y t h stay. stays t h, tt) tt))
 
 -- a declaration spares, where what follows it does
 made_if-spares : (missing : Bool) (p : Place) (q : List ℕ) (es : List Entry) → Spares es → Spares (made_if missing p q ++ es)
-made_if-spares true p q es h = (λ c y t k. stays t k, h)
+made_if-spares true p q es h = (λ c y t k stay. stays t k, h)
 made_if-spares false p q es h = h
 
 opened-spares : (J : List Entry) (spec : LinkSpec) (source target : Option Place) → RowHas Spares (opened J spec source target)
 opened-spares J spec (Some source) (Some target) =
     subst Spares (sym (append_assoc (made_if (not (stands J source spec.source_queue)) source spec.source_queue) (made_if (is_target_missing J spec source target) target spec.target_queue) (Opened spec.name (session J spec.name + 1) (ready_count J source spec.source_queue) ∷ [])))
     (made_if-spares (not (stands J source spec.source_queue)) source spec.source_queue _
-    (made_if-spares (is_target_missing J spec source target) target spec.target_queue _ (λ c y t h. stays t h, tt)))
+    (made_if-spares (is_target_missing J spec source target) target spec.target_queue _ (λ c y t h stay. stays t h, tt)))
 opened-spares J spec (Some source) None = tt
 opened-spares J spec None target = tt
 
@@ -167,7 +181,8 @@ open_if_startable-spares : (J : List Entry) (spec : LinkSpec) (state : StartStat
 open_if_startable-spares J spec NoBroker = tt
 open_if_startable-spares J spec NameTooLong = tt
 open_if_startable-spares J spec Start =
-    either-has Spares (is_open (phase J spec.name)) (Err why.Live) (opened J spec spec.source spec.target) tt (opened-spares J spec spec.source spec.target)
+    either-has Spares (is_open (phase J spec.name)) (Err why.Live) _ tt
+    (either-has Spares (is_source_locked J spec.source spec.source_queue) (Err why.NoSource) (opened J spec spec.source spec.target) tt (opened-spares J spec spec.source spec.target))
 
 open_row-spares : (J : List Entry) (l : List ℕ) → RowHas Spares (open_row J l)
 unfolding open_row
@@ -175,28 +190,28 @@ open_row-spares J l = with_link-has Spares J l _ (λ spec d. open_if_startable-s
 
 requeue_row-spares : (J : List Entry) (p : Place) (client c : ℕ) → RowHas Spares (requeue_row J p client c)
 unfolding requeue_row
-requeue_row-spares J p client c = unless_refused-has Spares (answer_refusal J p client c) _ (λ d y t h. readied t (c == d) h, tt)
+requeue_row-spares J p client c = unless_refused-has Spares (answer_refusal J p client c) _ (λ d y t h stay. readied t (c == d) h, tt)
 
 consume_row-spares : (J : List Entry) (p : Place) (client : ℕ) (q tag : List ℕ) (no_ack : Bool) (prefetch : ℕ) → RowHas Spares (consume_row J p client q tag no_ack prefetch)
 unfolding consume_row
 consume_row-spares J p client q tag no_ack prefetch =
-    at_place-has Spares J p _ (unless_refused-has Spares (queue_refusal J p q) _ (either-has Spares (consumes J p client tag) _ _ tt (λ c y t h. stays t h, tt)))
+    at_place-has Spares J p _ (unless_refused-has Spares (queue_refusal J p client q) _ (either-has Spares (consumes J p client tag) _ _ tt (λ c y t h stay. stays t h, tt)))
 
 cancel_row-spares : (J : List Entry) (p : Place) (client : ℕ) (tag : List ℕ) → RowHas Spares (cancel_row J p client tag)
 unfolding cancel_row
 cancel_row-spares J p client tag =
-    at_place-has Spares J p _ (either-has Spares (consumes J p client tag) _ (Ok []) (λ c y t h. stays t h, tt) tt)
+    at_place-has Spares J p _ (either-has Spares (consumes J p client tag) _ (Ok []) (λ c y t h stay. stays t h, tt) tt)
 
 close_row-spares : (J : List Entry) (p : Place) (client : ℕ) → RowHas Spares (close_row J p client)
 unfolding close_row
-close_row-spares J p client = at_place-has Spares J p _ (λ c y t h. ended p client t h, tt)
+close_row-spares J p client = at_place-has Spares J p _ (λ c y t h stay. ended p client t h, gone-spares p (queues_owned J p client))
 
 -- whatever the event, unless it is a removal
 pub next-spares : (J : List Entry) (e : Event) → is_removal e ≡ false → RowHas Spares (next J e)
-next-spares J (DeclareQueue p c q options) h = declare_row-spares J p q options
+next-spares J (DeclareQueue p c q options) h = declare_row-spares J p c q options
 next-spares J (DeclareExchange p c x shape) h = declare_exchange_row-spares J p x shape
-next-spares J (Bind p c b) h = bind_row-spares J p b
-next-spares J (Unbind p c b) h = unbind_row-spares J p b
+next-spares J (Bind p c b) h = bind_row-spares J p c b
+next-spares J (Unbind p c b) h = unbind_row-spares J p c b
 next-spares J (Publish p c m) h = publish_row-spares J p c m
 next-spares J (Consume p client q tag no_ack prefetch) h = consume_row-spares J p client q tag no_ack prefetch
 next-spares J (Cancel p client tag) h = cancel_row-spares J p client tag

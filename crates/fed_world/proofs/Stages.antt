@@ -16,7 +16,7 @@ sent-by K x l s c cause by =
 pub follows-stages : (J : List Entry) → EachCaused [] J → FollowsStages J
 follows-stages J caused = record {
   sent = λ K l s c stands. (caused-at J K (Sent l s c) caused stands).1;
-  published = λ K x l s c stands by. sent-by K x l s c (caused-at J K (Published x) caused stands).1 by;
+  published = λ K x l s c stands by. sent-by K x l s c (caused-at J K (Published x) caused stands).1.0 by;
   confirmed = λ K l s p stands. (caused-at J K (Confirmed l s p) caused stands).1;
   noted = λ K l s c stands. let at : EachCaused [] K × Caused K (Noted l s c) = caused-at J K (Noted l s c) caused stands in confirmed-at K l s c at.0 at.1;
 }

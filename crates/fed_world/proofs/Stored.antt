@@ -1,22 +1,26 @@
 -- A copy that is alive and stored stays so while nothing removes it.
-use Rattle.std.proofs.Common.{◌≡◌, ℕ, ◌+◌, ◌<◌, List, [], ◌∷◌, ◌++◌, length, zero, suc, Bool, true, false, Option, Some, None, arith, refl, sym, subst, ap, take, drop, ◌∙◌}
+use Rattle.std.proofs.Common.{◌≡◌, ℕ, ◌+◌, ◌<◌, List, [], ◌∷◌, ◌++◌, length, zero, suc, Bool, true, false, Option, Some, None, arith, refl, sym, subst, ap, take, drop, ◌∙◌, append_assoc, append-nil}
 use Rattle.std.specs.Prelude.{Ok, Err, not, cond, fold, nat_lt, position, slice_get}
 use Rattle.std.specs.List.{list_any, position_or_len}
-use Rattle.std.proofs.lemmas.Bool.{false≢true, and_parts, and_from, or_left, ltb-true, lt-ltb, ne_eqb, not-true, not_from_false}
+use Rattle.std.proofs.lemmas.Bool.{true≢false, false≢true, and_parts, and_from, or_left, ltb-true, lt-ltb, ne_eqb, not-true, not_from_false}
 use Rattle.std.proofs.lemmas.Option.{cond_some}
 use Rattle.std.proofs.lemmas.List.Folds.{list_any-append, prefix_len-append}
 use Rattle.std.proofs.lemmas.List.{take-append-le, drop-append-le, length-append}
 use Rattle.fed_journal.specs.declared.event.Event.{Event}
 use Rattle.fed_journal.specs.declared.entry.Publication.{Publication}
 use Rattle.fed_journal.specs.declared.entry.Entry.{Entry}
-use Rattle.fed_journal.specs.Copies.{Standing, is_left, standing, standing_step, publication_of, enters, flushes, is_gone, is_stored, must_be_stored, must_be_stored_from, must_be_stored_at, is_flushed_from, is_flushed_in, publication_in}
+use Rattle.fed_journal.specs.declared.entry.Entry.TheVariants.{GoneQueue}
+use Rattle.fed_journal.specs.Copies.{is_left, is_home, standing, publication_of, enters, flushes, is_gone, is_stored, must_be_stored, must_be_stored_from, must_be_stored_at, is_flushed_from, is_flushed_in, publication_in}
 use Rattle.fed_world.specs.Row.{Row}
 use Rattle.fed_world.specs.Step.{next, after}
 use Rattle.fed_world.specs.Run.{run, moment}
 use Rattle.fed_world.specs.Kept.{is_alive, EachMoment, KeepsStored}
 use Rattle.fed_world.proofs.RowHas.{RowHas}
-use Rattle.fed_world.proofs.Spares.{Spares, next-spares}
-use Rattle.fed_world.proofs.Standings.{published-of, standing-append}
+use Rattle.fed_world.proofs.Causes.{is_shared, Caused, EachCaused, caused-append}
+use Rattle.fed_world.proofs.Homes.{position-within, stored-home}
+use Rattle.fed_world.proofs.RowCaused.{next-caused}
+use Rattle.fed_world.proofs.Spares.{Spares, SparesEach, takes_away, next-spares}
+use Rattle.fed_world.proofs.Standings.{published-of, standing-push}
 
 position_or_len-append : {X : Type 0} (p : X → Bool) (xs ys : List X) → position_or_len p xs < length xs → position_or_len p (xs ++ ys) ≡ position_or_len p xs
 position_or_len-append p xs ys h =
@@ -32,11 +36,6 @@ position-append p xs ys i h =
     let longer : length (xs ++ ys) ≡ length xs + length ys = length-append xs ys in
     subst (λ n. cond (nat_lt n (length (xs ++ ys))) (Some n) None ≡ Some i) (sym same)
     (ap (λ b. cond b (Some i) None) (lt-ltb i (length (xs ++ ys)) (omega (arith, longer, within, parts.1))))
-
-pub position-within : {X : Type 0} (p : X → Bool) (xs : List X) (i : ℕ) → position p xs ≡ Some i → i < length xs
-position-within p xs i h =
-    let parts : (nat_lt (position_or_len p xs) (length xs) ≡ true) × (position_or_len p xs ≡ i) = cond_some (nat_lt (position_or_len p xs) (length xs)) (position_or_len p xs) i h in
-    subst (λ n. n < length xs) parts.1 (ltb-true (position_or_len p xs) (length xs) parts.0)
 
 slice_get-append : {X : Type 0} (xs ys : List X) (i : ℕ) → i < length xs → slice_get (xs ++ ys) i ≡ slice_get xs i
 slice_get-append [] ys i h = absurd (omega (arith, h))
@@ -76,29 +75,47 @@ stored-append J es c h =
     and_from (must_be_stored (J ++ es) c) (is_flushed_from (J ++ es) (position (enters c) (J ++ es)))
     (must-append J es c (position (enters c) J) refl parts.0) (flushed-append J es c (position (enters c) J) refl parts.1)
 
-spares-fold : (c : ℕ) (x : Publication) (t : Standing) (es : List Entry) → Spares es → is_left t ≡ false → is_left (fold (standing_step c x) t es) ≡ false
-spares-fold c x t [] spares h = h
-spares-fold c x t (e ∷ es) spares h = spares-fold c x (standing_step c x t e) es spares.1 (spares.0 c x t h)
+-- what must be stored is in no queue that goes
+stored-stays : (K : List Entry) (e : Entry) (c : ℕ) (x : Publication) → EachCaused [] K → Caused K e → publication_of c K ≡ Some x → must_be_stored K c ≡ true → takes_away c x e ≡ false
+stored-stays K (GoneQueue p q) c x caused cause of_copy h = not-home (is_home x c p q) refl
+  where
+    not-home : (b : Bool) → is_home x c p q ≡ b → b ≡ false
+    not-home true e = absurd (true≢false (sym (stored-home K c x p q caused of_copy h e) ∙ cause))
+    not-home false e = refl
+stored-stays K _ c x caused cause of_copy h = refl
 
-not_gone-append : (J es : List Entry) (c : ℕ) → Spares es → list_any (enters c) J ≡ true → not (is_gone J c) ≡ true → not (is_gone (J ++ es) c) ≡ true
-not_gone-append J es c spares there h =
-    let x : (x : Publication) × (publication_of c J ≡ Some x) = published-of c J there in
-    not_from_false (is_gone (J ++ es) c)
-    (ap is_left (standing-append c x.0 J es x.1) ∙ spares-fold c x.0 (standing c J) es spares (not-true (is_gone J c) h))
+not_gone-push : (K : List Entry) (e : Entry) (c : ℕ) → EachCaused [] K → Caused K e → SparesEach e → list_any (enters c) K ≡ true → is_stored K c ≡ true → not (is_gone K c) ≡ true → not (is_gone (K ++ e ∷ []) c) ≡ true
+unfolding is_stored
+not_gone-push K e c caused cause spares there stored h =
+    let x : (x : Publication) × (publication_of c K ≡ Some x) = published-of c K there in
+    let must : must_be_stored K c ≡ true = (and_parts (must_be_stored K c) (is_flushed_from K (position (enters c) K)) stored).0 in
+    not_from_false (is_gone (K ++ e ∷ []) c)
+    (ap is_left (standing-push c x.0 K e x.1) ∙ spares c x.0 (standing c K) (not-true (is_gone K c) h) (stored-stays K e c x.0 caused cause x.1 must))
 
-alive-append : (J es : List Entry) (c : ℕ) → Spares es → is_alive J c ≡ true → is_alive (J ++ es) c ≡ true
-alive-append J es c spares h =
-    let parts : (list_any (enters c) J ≡ true) × (not (is_gone J c) ≡ true) = and_parts (list_any (enters c) J) (not (is_gone J c)) h in
-    and_from (list_any (enters c) (J ++ es)) (not (is_gone (J ++ es) c)) (list_any-longer (enters c) J es parts.0) (not_gone-append J es c spares parts.0 parts.1)
+alive-push : (K : List Entry) (e : Entry) (c : ℕ) → EachCaused [] K → Caused K e → SparesEach e → is_stored K c ≡ true → is_alive K c ≡ true → is_alive (K ++ e ∷ []) c ≡ true
+alive-push K e c caused cause spares stored h =
+    let parts : (list_any (enters c) K ≡ true) × (not (is_gone K c) ≡ true) = and_parts (list_any (enters c) K) (not (is_gone K c)) h in
+    and_from (list_any (enters c) (K ++ e ∷ [])) (not (is_gone (K ++ e ∷ []) c)) (list_any-longer (enters c) K (e ∷ []) parts.0) (not_gone-push K e c caused cause spares parts.0 stored parts.1)
 
-after-kept : (J : List Entry) (row : Row) (c : ℕ) → RowHas Spares row → is_alive J c ≡ true → is_stored J c ≡ true → (is_alive (after J row) c ≡ true) × (is_stored (after J row) c ≡ true)
-after-kept J (Ok es) c spares alive stored = (alive-append J es c spares alive, stored-append J es c stored)
-after-kept J (Err reason) c spares alive stored = (alive, stored)
+alive-each : (K es : List Entry) (c : ℕ) → EachCaused [] K → EachCaused K es → Spares es → is_stored K c ≡ true → is_alive K c ≡ true → is_alive (K ++ es) c ≡ true
+alive-each K [] c caused each spares stored h = subst (λ J. is_alive J c ≡ true) (sym (append-nil K)) h
+alive-each K (e ∷ es) c caused each spares stored h =
+    subst (λ J. is_alive J c ≡ true) (append_assoc K (e ∷ []) es)
+    (alive-each (K ++ e ∷ []) es c (caused-append [] K (e ∷ []) caused (each.0, tt)) each.1 spares.1 (stored-append K (e ∷ []) c stored) (alive-push K e c caused each.0 spares.0 stored h))
 
-moment-keeps : (J : List Entry) (line : ℕ) (e : Event) → KeepsStored J (moment J line e)
-moment-keeps J line e safe c alive stored = after-kept J (next J e) c (next-spares J e safe) alive stored
+after-kept : (J : List Entry) (row : Row) (c : ℕ) → EachCaused [] J → RowHas (EachCaused J) row → RowHas Spares row → is_alive J c ≡ true → is_stored J c ≡ true → (is_alive (after J row) c ≡ true) × (is_stored (after J row) c ≡ true)
+after-kept J (Ok es) c caused each spares alive stored = (alive-each J es c caused each spares stored alive, stored-append J es c stored)
+after-kept J (Err reason) c caused each spares alive stored = (alive, stored)
 
--- every moment of a run from any journal
-pub run-keeps_stored : (J : List Entry) (events : List (ℕ × Event)) → EachMoment KeepsStored J (run J events)
-run-keeps_stored J [] = tt
-run-keeps_stored J (e ∷ es) = (moment-keeps J e.0 e.1, run-keeps_stored (after J (next J e.1)) es)
+pub moment-keeps : (J : List Entry) (line : ℕ) (e : Event) → EachCaused [] J → KeepsStored J (moment J line e)
+moment-keeps J line e caused safe c alive stored = after-kept J (next J e) c caused (next-caused J e) (next-spares J e safe) alive stored
+
+pub after-caused : (J : List Entry) (row : Row) → EachCaused [] J → RowHas (EachCaused J) row → EachCaused [] (after J row)
+after-caused J (Ok es) caused h = caused-append [] J es caused h
+after-caused J (Err reason) caused h = caused
+
+-- every moment of a run from a journal in which each entry has its cause
+pub run-keeps_stored : (J : List Entry) (events : List (ℕ × Event)) → EachCaused [] J → EachMoment KeepsStored J (run J events)
+run-keeps_stored J [] caused = tt
+run-keeps_stored J (e ∷ es) caused =
+    (moment-keeps J e.0 e.1 caused, run-keeps_stored (after J (next J e.1)) es (after-caused J (next J e.1) caused (next-caused J e.1)))

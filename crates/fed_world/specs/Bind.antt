@@ -11,7 +11,7 @@ use Rattle.fed_journal.specs.Names.{same_text, is_reserved}
 use Rattle.fed_journal.specs.Routes.{is_bound}
 use Rattle.fed_world.specs.declared.reason.Reason.{Reason}
 use Rattle.fed_world.specs.declared.reason.Reason.TheVariants.{Refused}
-use Rattle.fed_world.specs.Row.{Row, at_place, unless_refused}
+use Rattle.fed_world.specs.Row.{Row, at_place, lock_refusal, unless_refused}
 
 -- the default exchange can't be bound (AMQP 0-9-1, 3.1.3.1), nor what belongs to links
 abbrev pub is_unbindable : List ℕ → Bool
@@ -21,15 +21,20 @@ abbrev pub stands_as : List Entry → Place → Sort → List ℕ → Bool
 stands_as J p Queue name = is_some (queue_options J p name)
 stands_as J p Exchange name = is_some (exchange_shape J p name)
 
--- ACCESS_REFUSED (403), or NOT_FOUND (404) for an end that isn't there
-abbrev pub bind_refusal : List Entry → Place → Binding → Option Reason
-bind_refusal J p b =
+-- an exchange is never locked
+abbrev pub end_refusal : List Entry → Place → ℕ → Sort → List ℕ → Option Reason
+end_refusal J p client Queue name = lock_refusal J p client name
+end_refusal J p client Exchange name = None
+
+-- ACCESS_REFUSED (403), then NOT_FOUND (404) for an end that isn't there, then RESOURCE_LOCKED (405)
+abbrev pub bind_refusal : List Entry → Place → ℕ → Binding → Option Reason
+bind_refusal J p client b =
     if is_unbindable b.source || is_unbindable b.dest then Some (Refused 403) else
-    if stands_as J p Exchange b.source && stands_as J p b.sort b.dest then None else Some (Refused 404)
+    if stands_as J p Exchange b.source && stands_as J p b.sort b.dest then end_refusal J p client b.sort b.dest else Some (Refused 404)
 
 -- an equal binding is made once (queue.bind: a duplicate is ignored)
-unfoldable pub bind_row : List Entry → Place → Binding → Row
-bind_row J p b = at_place J p (unless_refused (bind_refusal J p b) (if is_bound J p b then Ok [] else Ok (Bound p b ∷ [])))
+unfoldable pub bind_row : List Entry → Place → ℕ → Binding → Row
+bind_row J p client b = at_place J p (unless_refused (bind_refusal J p client b) (if is_bound J p b then Ok [] else Ok (Bound p b ∷ [])))
 
-unfoldable pub unbind_row : List Entry → Place → Binding → Row
-unbind_row J p b = at_place J p (unless_refused (bind_refusal J p b) (if is_bound J p b then Ok (Unbound p b ∷ []) else Ok []))
+unfoldable pub unbind_row : List Entry → Place → ℕ → Binding → Row
+unbind_row J p client b = at_place J p (unless_refused (bind_refusal J p client b) (if is_bound J p b then Ok (Unbound p b ∷ []) else Ok []))

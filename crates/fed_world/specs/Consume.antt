@@ -14,7 +14,7 @@ consumes J p client tag = is_some (consumer J p (channel_of client) tag)
 -- NOT_ALLOWED (530) for a tag in use
 unfoldable pub consume_row : List Entry → Place → ℕ → List ℕ → List ℕ → Bool → ℕ → Row
 consume_row J p client q tag no_ack prefetch =
-    at_place J p (with_queue J p q (
+    at_place J p (with_queue J p client q (
     if consumes J p client tag then Err (Refused 530) else Ok (Consumed p (channel_of client) q tag no_ack prefetch ∷ [])))
 
 unfoldable pub cancel_row : List Entry → Place → ℕ → List ℕ → Row

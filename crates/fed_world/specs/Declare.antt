@@ -11,7 +11,7 @@ use Rattle.amqp_props.specs.declared.link.ExchangeKind.TheVariants.{Direct, Fano
 use Rattle.fed_journal.specs.Configuration.{queue_options, exchange_shape}
 use Rattle.fed_journal.specs.Names.{same_text, is_reserved}
 use Rattle.fed_world.specs.declared.reason.Reason.TheVariants.{Refused}
-use Rattle.fed_world.specs.Row.{Row, at_place}
+use Rattle.fed_world.specs.Row.{Row, at_place, lock_refusal, unless_refused}
 
 -- what a durable queue that lasts is declared with
 abbrev pub lasting : QueueOptions
@@ -36,15 +36,21 @@ same_flag false b = not b
 abbrev pub same_options : QueueOptions → QueueOptions → Bool
 same_options a b = same_flag a.durable b.durable && same_flag a.exclusive b.exclusive && same_flag a.auto_delete b.auto_delete
 
--- PRECONDITION_FAILED (406) where it stands with other options
-abbrev pub declared_queue : Place → List ℕ → QueueOptions → Option QueueOptions → Row
-declared_queue p q options None = Ok (MadeQueue p q options ∷ [])
-declared_queue p q options (Some was) = if same_options was options then Ok [] else Err (Refused 406)
+-- an exclusive queue belongs to the connection that declares it (AMQP 0-9-1, queue.declare: exclusive)
+abbrev pub owner_by : ℕ → QueueOptions → Option ℕ
+owner_by client options = if options.exclusive then Some client else None
 
-unfoldable pub declare_row : List Entry → Place → List ℕ → QueueOptions → Row
-declare_row J p q options =
+-- PRECONDITION_FAILED (406) where it stands with other options
+abbrev pub declared_queue : Place → ℕ → List ℕ → QueueOptions → Option QueueOptions → Row
+declared_queue p client q options None = Ok (MadeQueue p q options (owner_by client options) ∷ [])
+declared_queue p client q options (Some was) = if same_options was options then Ok [] else Err (Refused 406)
+
+-- RESOURCE_LOCKED (405) where another connection has it to itself
+unfoldable pub declare_row : List Entry → Place → ℕ → List ℕ → QueueOptions → Row
+declare_row J p client q options =
     at_place J p (
-    if is_refused J p q then Err (Refused 403) else declared_queue p q options (queue_options J p q))
+    if is_refused J p q then Err (Refused 403) else
+    unless_refused (lock_refusal J p client q) (declared_queue p client q options (queue_options J p q)))
 
 abbrev pub same_kind : ExchangeKind → ExchangeKind → Bool
 same_kind Direct Direct = true

@@ -11,4 +11,4 @@ abbrev pub got : Place → ℕ → List ℕ → Bool → ℕ → Entry
 got p client q no_ack c = Delivered p (channel_of client) [] q c no_ack
 
 unfoldable pub get_row : List Entry → Place → ℕ → List ℕ → Bool → Row
-get_row J p client q no_ack = at_place J p (with_queue J p q (one_or_empty (got p client q no_ack) (first_ready J p q)))
+get_row J p client q no_ack = at_place J p (with_queue J p client q (one_or_empty (got p client q no_ack) (first_ready J p q)))

@@ -5,5 +5,5 @@ use Rattle.fed_journal.specs.declared.entry.Entry.{Entry}
 use Rattle.fed_journal.specs.declared.entry.Entry.TheVariants.{Purged}
 use Rattle.fed_world.specs.Row.{Row, at_place, with_queue}
 
-unfoldable pub purge_row : List Entry → Place → List ℕ → Row
-purge_row J p q = at_place J p (with_queue J p q (Ok (Purged p q ∷ [])))
+unfoldable pub purge_row : List Entry → Place → ℕ → List ℕ → Row
+purge_row J p client q = at_place J p (with_queue J p client q (Ok (Purged p q ∷ [])))

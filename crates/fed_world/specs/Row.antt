@@ -4,7 +4,7 @@ use Rattle.fed_journal.specs.declared.place.Place.{Place}
 use Rattle.fed_journal.specs.declared.place.Client.{Client}
 use Rattle.fed_journal.specs.declared.link.LinkSpec.{LinkSpec}
 use Rattle.fed_journal.specs.declared.entry.Entry.{Entry}
-use Rattle.fed_journal.specs.Configuration.{is_place, queue_options}
+use Rattle.fed_journal.specs.Configuration.{is_place, queue_options, is_locked}
 use Rattle.fed_journal.specs.Names.{is_reserved}
 use Rattle.fed_journal.specs.Links.{link_of}
 use Rattle.fed_journal.specs.Phases.{phase, is_open}
@@ -27,17 +27,23 @@ with_spec row (Some spec) = row spec
 abbrev pub channel_of : ℕ → Client
 channel_of client = record { connection = client; channel = 1 }
 
--- ACCESS_REFUSED (403) for a queue that belongs to links, NOT_FOUND (404) for one that isn't there (AMQP 0-9-1, 1.2)
-abbrev pub queue_refusal : List Entry → Place → List ℕ → Option Reason
-queue_refusal J p q = if is_reserved q then Some (Refused 403) else if is_some (queue_options J p q) then None else Some (Refused 404)
+-- RESOURCE_LOCKED (405) for a queue that another connection has to itself (AMQP 0-9-1, queue.declare: exclusive)
+abbrev pub lock_refusal : List Entry → Place → ℕ → List ℕ → Option Reason
+lock_refusal J p client q = if is_locked J p q client then Some (Refused 405) else None
+
+-- ACCESS_REFUSED (403) for a queue that belongs to links, then NOT_FOUND (404) for one that isn't there (AMQP 0-9-1, 1.2)
+abbrev pub queue_refusal : List Entry → Place → ℕ → List ℕ → Option Reason
+queue_refusal J p client q =
+    if is_reserved q then Some (Refused 403) else
+    if is_some (queue_options J p q) then lock_refusal J p client q else Some (Refused 404)
 
 abbrev pub unless_refused : Option Reason → Row → Row
 unless_refused None row = row
 unless_refused (Some reason) row = Err reason
 
 -- an event of a client with a queue
-abbrev pub with_queue : List Entry → Place → List ℕ → Row → Row
-with_queue J p q row = unless_refused (queue_refusal J p q) row
+abbrev pub with_queue : List Entry → Place → ℕ → List ℕ → Row → Row
+with_queue J p client q row = unless_refused (queue_refusal J p client q) row
 
 -- an event of a link that no configuration asks for
 abbrev pub with_link : List Entry → List ℕ → (LinkSpec → Row) → Row

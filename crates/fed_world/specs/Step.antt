@@ -27,10 +27,10 @@ use Rattle.fed_world.specs.Settle.{settle_row}
 
 -- each event by its own rule
 abbrev pub next : List Entry → Event → Row
-next J (DeclareQueue place client queue options) = declare_row J place queue options
+next J (DeclareQueue place client queue options) = declare_row J place client queue options
 next J (DeclareExchange place client exchange shape) = declare_exchange_row J place exchange shape
-next J (Bind place client binding) = bind_row J place binding
-next J (Unbind place client binding) = unbind_row J place binding
+next J (Bind place client binding) = bind_row J place client binding
+next J (Unbind place client binding) = unbind_row J place client binding
 next J (Publish place client message) = publish_row J place client message
 next J (Consume place client queue tag no_ack prefetch) = consume_row J place client queue tag no_ack prefetch
 next J (Cancel place client tag) = cancel_row J place client tag
@@ -39,7 +39,7 @@ next J (Get place client queue no_ack) = get_row J place client queue no_ack
 next J (Ack place client copy) = ack_row J place client copy
 next J (Reject place client copy) = reject_row J place client copy
 next J (Requeue place client copy) = requeue_row J place client copy
-next J (Purge place client queue) = purge_row J place queue
+next J (Purge place client queue) = purge_row J place client queue
 next J (Close place client) = close_row J place client
 next J (Flush broker) = flush_row J broker
 next J (SetShovel place name shovel) = set_shovel_row J place name shovel

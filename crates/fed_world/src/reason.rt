@@ -14,8 +14,12 @@ pub enum Reason {
     NameTooLong,
     /// The link has a session.
     Live,
+    /// A client's connection has the link's source queue to itself.
+    NoSource,
     /// The end that the event needs doesn't live.
     NotOpen,
+    /// The session holds as many copies as the link asks for.
+    Full,
     /// Nothing is there to be handled.
     Empty,
     /// No publication that waits is secured.

@@ -104,7 +104,11 @@ fn consuming_row(alloc: Global, entries: &[Entry], event: &Event) -> Result<Row,
             client,
             copy,
         } => requeue_row(alloc, entries, place, *client, *copy),
-        Event::Purge { place, queue, .. } => purge_row(alloc, entries, place, queue),
+        Event::Purge {
+            place,
+            client,
+            queue,
+        } => purge_row(alloc, entries, place, *client, queue),
         Event::Close { place, client } => close_row(alloc, entries, place, *client),
         _ => Ok(nothing(alloc)),
     }
@@ -120,18 +124,26 @@ pub fn next(alloc: Global, journal: &Journal, event: &Event) -> Result<Row, Allo
     match event {
         Event::DeclareQueue {
             place,
+            client,
             queue,
             options,
-            ..
-        } => declare_row(alloc, entries, place, queue, *options),
+        } => declare_row(alloc, entries, place, *client, queue, *options),
         Event::DeclareExchange {
             place,
             exchange,
             shape,
             ..
         } => declare_exchange_row(alloc, entries, place, exchange, *shape),
-        Event::Bind { place, binding, .. } => bind_row(alloc, entries, place, binding),
-        Event::Unbind { place, binding, .. } => unbind_row(alloc, entries, place, binding),
+        Event::Bind {
+            place,
+            client,
+            binding,
+        } => bind_row(alloc, entries, place, *client, binding),
+        Event::Unbind {
+            place,
+            client,
+            binding,
+        } => unbind_row(alloc, entries, place, *client, binding),
         Event::Publish {
             place,
             client,

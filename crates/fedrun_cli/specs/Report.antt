@@ -5,7 +5,7 @@ use Rattle.fed_journal.specs.declared.entry.Entry.{Entry}
 use Rattle.fed_journal.specs.declared.event.Event.{Event}
 use Rattle.fed_journal.specs.declared.event.Event.TheVariants.{Show}
 use Rattle.fed_world.specs.declared.reason.Reason.{Reason}
-use Rattle.fed_world.specs.declared.reason.Reason.TheVariants.{NoPlace, NoLink, NoBroker, NameTooLong, Live, NotOpen, Empty, Unsecured, NoConsumer, Busy, NotHeld, Refused}
+use Rattle.fed_world.specs.declared.reason.Reason.TheVariants.{NoPlace, NoLink, NoBroker, NameTooLong, NoSource, Full, Live, NotOpen, Empty, Unsecured, NoConsumer, Busy, NotHeld, Refused}
 use Rattle.fed_world.specs.declared.reason.StepFault.{StepFault}
 use Rattle.fed_world.specs.Limits.{limit_passed}
 use Rattle.fed_world.specs.Row.{Row}
@@ -24,6 +24,8 @@ reason_word NoPlace = codes "no-place"
 reason_word NoLink = codes "no-link"
 reason_word NoBroker = codes "no-broker"
 reason_word NameTooLong = codes "name-too-long"
+reason_word NoSource = codes "no-source"
+reason_word Full = codes "full"
 reason_word Live = codes "live"
 reason_word NotOpen = codes "not-open"
 reason_word Empty = codes "empty"

@@ -30,6 +30,8 @@ fn push_reason(page: &mut Page, reason: Reason) -> Result<(), AllocError>
         Reason::NoLink => page.push("no-link"),
         Reason::NoBroker => page.push("no-broker"),
         Reason::NameTooLong => page.push("name-too-long"),
+        Reason::NoSource => page.push("no-source"),
+        Reason::Full => page.push("full"),
         Reason::Live => page.push("live"),
         Reason::NotOpen => page.push("not-open"),
         Reason::Empty => page.push("empty"),

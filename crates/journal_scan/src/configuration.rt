@@ -1,6 +1,6 @@
 //! Brokers, queues and exchanges.
-ghost use Rattle.std.specs.Prelude.{◌≡◌};
-ghost use Rattle.fed_journal.specs.Configuration.{is_broker, is_place, queue_options, predeclared_kind, predeclared_shape, exchange_shape};
+ghost use Rattle.std.specs.Prelude.{◌≡◌, IfOk};
+ghost use Rattle.fed_journal.specs.Configuration.{is_broker, is_place, is_queue, options_step, queue_options, predeclared_kind, predeclared_shape, exchange_shape};
 
 use amqp_props::{ExchangeKind, QueueOptions, Text};
 use fed_journal::entry::Entry;
@@ -23,6 +23,34 @@ pub fn is_place(journal: &[Entry], place: &Place) -> bool
     place.vhost.as_str() == "/" && is_broker(journal, &place.broker)
 }
 
+/// Whether that queue of the place is meant.
+pub(crate) fn is_queue(place: &Place, queue: &Text, at: &Place, name: &Text) -> bool
+    ensures { result ≡ is_queue place.now queue.now at.now name.now }
+{
+    at == place && name == queue
+}
+
+/// The options of the queue after one entry more.
+fn options_after(
+    place: &Place,
+    queue: &Text,
+    was: Option<QueueOptions>,
+    entry: &Entry,
+) -> Option<QueueOptions>
+    ensures { result ≡ options_step place.now queue.now was entry.now }
+{
+    match entry {
+        Entry::MadeQueue {
+            place: at,
+            queue: made,
+            options,
+            ..
+        } if is_queue(place, queue, at, made) => Some(*options),
+        Entry::GoneQueue { place: at, queue: gone } if is_queue(place, queue, at, gone) => None,
+        _ => was,
+    }
+}
+
 /// The options of the queue, if it stands.
 #[tactic(auto, unfolding(fed_journal::specs::Configuration::queue_options))]
 pub fn queue_options(journal: &[Entry], place: &Place, queue: &Text) -> Option<QueueOptions>
@@ -30,16 +58,7 @@ pub fn queue_options(journal: &[Entry], place: &Place, queue: &Text) -> Option<Q
 {
     let mut last = None;
     for entry in journal {
-        if let Entry::MadeQueue {
-            place: at,
-            queue: made,
-            options,
-        } = entry
-            && at == place
-            && made == queue
-        {
-            last = Some(*options);
-        }
+        last = options_after(place, queue, last, entry);
     }
     last
 }

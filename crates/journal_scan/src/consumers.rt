@@ -2,7 +2,7 @@
 ghost use Rattle.std.specs.Prelude.{◌≡◌, ◌==◌, All, IfOk, List, ℕ};
 ghost use Rattle.std.specs.List.{list_any};
 ghost use Rattle.fed_journal.specs.Copies.{IsFitting};
-ghost use Rattle.fed_journal.specs.Consumers.{is_same, consumer, consumer_step, handed_step, handed_since, is_held_for, held_count};
+ghost use Rattle.fed_journal.specs.Consumers.{is_same, is_from, consumer, consumer_step, handed_step, handed_since, is_held_for, held_count};
 ghost use Rattle.journal_scan.specs.View.{consumer_of};
 
 use crate::holds::entered;
@@ -36,6 +36,16 @@ fn is_same(name: ConsumerName<'_>, place: &Place, client: Client, tag: &Text) ->
     place == name.place && is_same_client(client, name.client) && tag == name.tag
 }
 
+/// Whether it consumes from the queue.
+fn is_from(queue: &Text, consumer: Option<Subscription<'_>>) -> bool
+    ensures { result ≡ is_from queue.now (consumer_of consumer.entry) }
+{
+    match consumer {
+        Some(consumer) => consumer.queue == queue,
+        None => false,
+    }
+}
+
 /// The consumer of that name after one entry more.
 fn consumer_after<'a>(
     name: ConsumerName<'_>,
@@ -60,6 +70,7 @@ fn consumer_after<'a>(
         Entry::Cancelled { place, client, tag } if is_same(name, place, *client, tag) => None,
         Entry::Closed { place, connection }
             if place == name.place && name.client.connection == *connection => { None }
+        Entry::GoneQueue { place, queue } if place == name.place && is_from(queue, was) => None,
         _ => was,
     }
 }

@@ -1,7 +1,7 @@
 //! The copies and publications of a link's session, by their stage.
 ghost use Rattle.std.specs.Prelude.{◌≡◌, IfOk};
 ghost use Rattle.std.specs.Option.{option_copied};
-ghost use Rattle.fed_journal.specs.Flight.{is_number, has, of_session, taken_by, sent_by, copy_published_by, published_from, published_by, confirmed_to, noted_by, settled_for, copy_from, copy_of_publication, confirmed_copy, flight_took, flight_sent, flight_published, flight_confirmed, flight_noted};
+ghost use Rattle.fed_journal.specs.Flight.{is_number, has, of_session, taken_by, sent_by, copy_published_by, published_from, published_by, confirmed_to, noted_by, settled_for, copy_from, copy_of_publication, confirmed_copy, flight_held, flight_took, flight_sent, flight_published, flight_confirmed, flight_noted};
 
 use crate::copies::find_publication;
 use amqp_props::Text;
@@ -205,6 +205,23 @@ fn is_settled(journal: &[Entry], link: &Text, session: u32, copy: u64) -> bool
     journal
         .iter()
         .any(|entry| is_number(copy, settled_for(entry, link, session)))
+}
+
+/// The copies taken and not removed, in the order of taking: what the session holds.
+#[tactic(auto, unfolding(fed_journal::specs::Flight::flight_held))]
+pub fn flight_held(
+    alloc: Global,
+    journal: &[Entry],
+    link: &Text,
+    session: u32,
+) -> Result<Vec<u64>, AllocError>
+    ensures { IfOk result (λ list. list.items ≡ flight_held journal.now link.now session) }
+{
+    journal
+        .iter()
+        .filter_map(|entry| taken_by(entry, link, session))
+        .filter(|copy| !is_settled(journal, link, session, *copy))
+        .collect(alloc)
 }
 
 /// The copies taken and not sent on, in the order of taking.

@@ -7,6 +7,7 @@ pub mod copies;
 pub mod flight;
 pub mod holds;
 pub mod links;
+pub mod owners;
 pub mod phases;
 pub mod routing;
 pub mod standing;

@@ -6,7 +6,7 @@ use crate::configuration::is_place;
 use amqp_props::Text;
 use fed_journal::entry::Entry;
 use fed_journal::event::Shovel;
-use fed_journal::link::{LinkSpec, StartState};
+use fed_journal::link::{DEFAULT_PREFETCH, LinkSpec, StartState};
 use fed_journal::page::shovel_link_name;
 use fed_journal::place::Place;
 use std::alloc::{AllocError, Global};
@@ -67,6 +67,7 @@ fn spec_of(
         source_queue: shovel.source_queue.clone()?,
         target_queue: shovel.target_queue.clone()?,
         mode: shovel.mode,
+        prefetch: DEFAULT_PREFETCH,
     })
 }
 

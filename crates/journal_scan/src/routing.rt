@@ -1,7 +1,7 @@
 //! Exchanges and bindings of a place, and the queues that a message reaches there.
 ghost use Rattle.std.specs.Prelude.{◌≡◌, ◌+◌, ◌<◌, ◌≤◌, ◌^◌, IfOk, OnOk, length};
 ghost use Rattle.fed_journal.specs.declared.journal.TheConstants.{MAX_ENTRIES};
-ghost use Rattle.fed_journal.specs.Routes.{made as made_object, bound as bound_there, unbound as unbound_there, site as site_of_journal, site_step, is_at as is_entry_at, is_bound as is_binding_bound, routes as routes_of_message};
+ghost use Rattle.fed_journal.specs.Routes.{made as made_object, gone as gone_queue, bound as bound_there, unbound as unbound_there, site as site_of_journal, site_step, is_at as is_entry_at, is_bound as is_binding_bound, routes as routes_of_message};
 ghost use Rattle.fed_journal.specs.Messages.{headers_of};
 ghost use Rattle.route_core.specs.Routes.{routed_names};
 ghost use Rattle.route_core.specs.Walks.{publish};
@@ -55,6 +55,13 @@ fn make(router: &mut Router, sort: Sort, name: &Text, node: Node) -> Result<(), 
     router.declare(name.as_str(), node)
 }
 
+/// Removes the queue with its bindings, if it stands.
+fn remove(router: &mut Router, queue: &Text)
+    ensures { router.new.routing ≡ gone_queue queue.now router.old.routing }
+{
+    router.delete(Sort::Queue, queue.as_str());
+}
+
 /// Binds, unless an end is missing or an equal binding stands.
 fn bind(router: &mut Router, binding: &Binding) -> Result<(), AllocError>
     ensures { OnOk result (router.new.routing ≡ bound_there binding.now router.old.routing) }
@@ -93,6 +100,7 @@ fn is_at(entry: &Entry, place: &Place) -> bool
 {
     match entry {
         Entry::MadeQueue { place: at, .. }
+        | Entry::GoneQueue { place: at, .. }
         | Entry::MadeExchange { place: at, .. }
         | Entry::Bound { place: at, .. }
         | Entry::Unbound { place: at, .. } => at == place,
@@ -130,6 +138,10 @@ fn enter(site: &mut Site, place: &Place, entry: &Entry) -> Result<(), AllocError
             exchange,
             Node::Exchange(shape.kind),
         ),
+        Entry::GoneQueue { queue, .. } => {
+            remove(&mut site.router, queue);
+            Ok(())
+        }
         Entry::Bound { binding, .. } => bind(&mut site.router, binding),
         Entry::Unbound { binding, .. } => {
             unbind(&mut site.router, binding);

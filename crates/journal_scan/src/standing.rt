@@ -184,6 +184,9 @@ fn moved<'a>(
             if is_waiting(standing) && is_home(publication, copy, place, queue) => {
             CopyState::Left
         }
+        Entry::GoneQueue { place, queue } if is_home(publication, copy, place, queue) => {
+            CopyState::Left
+        }
         Entry::Closed { place, connection } => closed(standing, place, *connection),
         _ => standing,
     }

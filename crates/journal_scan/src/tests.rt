@@ -38,6 +38,7 @@ fn made(alloc: Global) -> Result<Entry, AllocError>
             exclusive: false,
             auto_delete: false,
         },
+        owner: None,
     })
 }
 

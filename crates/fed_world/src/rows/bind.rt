@@ -2,10 +2,10 @@
 ghost use Rattle.std.specs.Prelude.{◌≡◌, ◌≤◌, IfOk, length};
 ghost use Rattle.fed_journal.specs.declared.journal.TheConstants.{MAX_ENTRIES};
 ghost use Rattle.fed_world.specs.RowOf.{row_of};
-ghost use Rattle.fed_world.specs.Bind.{is_unbindable, stands_as, bind_refusal, bind_row, unbind_row};
+ghost use Rattle.fed_world.specs.Bind.{is_unbindable, stands_as, end_refusal, bind_refusal, bind_row, unbind_row};
 
 use crate::reason::Reason;
-use crate::row::{Row, nothing, one};
+use crate::row::{Row, lock_refusal, nothing, one};
 use amqp_props::Text;
 use fed_journal::entry::Entry;
 use fed_journal::place::Place;
@@ -32,16 +32,37 @@ fn stands_as(journal: &[Entry], place: &Place, sort: Sort, name: &Text) -> bool
     }
 }
 
+/// Why a client is refused an end that another connection has to itself, if it is.
+fn end_refusal(
+    journal: &[Entry],
+    place: &Place,
+    client: u16,
+    sort: Sort,
+    name: &Text,
+) -> Option<Reason>
+    ensures { result ≡ end_refusal journal.now place.now client sort name.now }
+{
+    match sort {
+        Sort::Queue => lock_refusal(journal, place, client, name),
+        Sort::Exchange => None,
+    }
+}
+
 /// Why a client is refused the binding, if it is.
-fn bind_refusal(journal: &[Entry], place: &Place, binding: &Binding) -> Option<Reason>
-    ensures { result ≡ bind_refusal journal.now place.now binding.now }
+fn bind_refusal(
+    journal: &[Entry],
+    place: &Place,
+    client: u16,
+    binding: &Binding,
+) -> Option<Reason>
+    ensures { result ≡ bind_refusal journal.now place.now client binding.now }
 {
     if is_unbindable(&binding.source) || is_unbindable(&binding.dest) {
         Some(Reason::Refused(403))
     } else if stands_as(journal, place, Sort::Exchange, &binding.source)
         && stands_as(journal, place, binding.sort, &binding.dest)
     {
-        None
+        end_refusal(journal, place, client, binding.sort, &binding.dest)
     } else {
         Some(Reason::Refused(404))
     }
@@ -53,15 +74,16 @@ pub fn bind_row(
     alloc: Global,
     journal: &[Entry],
     place: &Place,
+    client: u16,
     binding: &Binding,
 ) -> Result<Row, AllocError>
     requires { length journal.now ≤ MAX_ENTRIES }
-    ensures { IfOk result (λ row. row_of row ≡ bind_row journal.now place.now binding.now) }
+    ensures { IfOk result (λ row. row_of row ≡ bind_row journal.now place.now client binding.now) }
 {
     if !is_place(journal, place) {
         return Ok(Err(Reason::NoPlace));
     }
-    if let Some(reason) = bind_refusal(journal, place, binding) {
+    if let Some(reason) = bind_refusal(journal, place, client, binding) {
         return Ok(Err(reason));
     }
     if is_bound(alloc, journal, place, binding)? {
@@ -78,15 +100,16 @@ pub fn unbind_row(
     alloc: Global,
     journal: &[Entry],
     place: &Place,
+    client: u16,
     binding: &Binding,
 ) -> Result<Row, AllocError>
     requires { length journal.now ≤ MAX_ENTRIES }
-    ensures { IfOk result (λ row. row_of row ≡ unbind_row journal.now place.now binding.now) }
+    ensures { IfOk result (λ row. row_of row ≡ unbind_row journal.now place.now client binding.now) }
 {
     if !is_place(journal, place) {
         return Ok(Err(Reason::NoPlace));
     }
-    if let Some(reason) = bind_refusal(journal, place, binding) {
+    if let Some(reason) = bind_refusal(journal, place, client, binding) {
         return Ok(Err(reason));
     }
     if !is_bound(alloc, journal, place, binding)? {

@@ -1,14 +1,33 @@
 //! A client's connection ends.
-ghost use Rattle.std.specs.Prelude.{◌≡◌, IfOk};
+ghost use Rattle.std.specs.Prelude.{◌≡◌, ◌++◌, map, IfOk, OnOk};
+ghost use Rattle.fed_journal.specs.declared.entry.Entry.TheVariants.{GoneQueue};
 ghost use Rattle.fed_world.specs.RowOf.{row_of};
 ghost use Rattle.fed_world.specs.Close.{close_row};
 
 use crate::reason::Reason;
-use crate::row::{Row, one};
+use crate::row::Row;
+use amqp_props::Text;
 use fed_journal::entry::Entry;
 use fed_journal::place::Place;
 use journal_scan::configuration::is_place;
+use journal_scan::owners::queues_owned;
 use std::alloc::{AllocError, Global};
+
+/// Appends that these queues are gone.
+fn push_gone(
+    place: &Place,
+    queues: &[Text],
+    entries: &mut Vec<Entry>,
+) -> Result<(), AllocError>
+    ensures { OnOk result (entries.new.items ≡ entries.old.items ++ map (GoneQueue place.now) queues.now) }
+{
+    for queue in queues {
+        let place = place.clone()?;
+        let queue = queue.clone()?;
+        entries.push(Entry::GoneQueue { place, queue })?;
+    }
+    Ok(())
+}
 
 /// The row of `close`.
 #[tactic(auto, unfolding(crate::specs::Close::close_row))]
@@ -23,12 +42,13 @@ pub fn close_row(
     if !is_place(journal, place) {
         return Ok(Err(Reason::NoPlace));
     }
-    let place = place.clone()?;
-    one(
-        alloc,
-        Entry::Closed {
-            place,
-            connection: u32::from(client),
-        },
-    )
+    let connection = u32::from(client);
+    let queues = queues_owned(alloc, journal, place, connection)?;
+    let mut entries = Vec::new(alloc);
+    entries.push(Entry::Closed {
+        place: place.clone()?,
+        connection,
+    })?;
+    push_gone(place, queues.as_slice(), &mut entries)?;
+    Ok(Ok(entries))
 }

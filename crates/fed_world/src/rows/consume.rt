@@ -41,7 +41,7 @@ pub fn consume_row(
     if !is_place(journal, place) {
         return Ok(Err(Reason::NoPlace));
     }
-    if let Some(reason) = queue_refusal(journal, place, queue) {
+    if let Some(reason) = queue_refusal(journal, place, client, queue) {
         return Ok(Err(reason));
     }
     if consumes(journal, place, client, tag) {

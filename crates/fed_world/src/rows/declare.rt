@@ -1,10 +1,10 @@
 //! A client declares a queue or an exchange.
 ghost use Rattle.std.specs.Prelude.{◌≡◌, IfOk};
 ghost use Rattle.fed_world.specs.RowOf.{row_of};
-ghost use Rattle.fed_world.specs.Declare.{declare_row, declared_queue, same_options, lasting, stands, is_broker_name, is_refused, same_kind, same_shape, is_exchange_refused, declared_exchange, declare_exchange_row};
+ghost use Rattle.fed_world.specs.Declare.{declare_row, owner_by, declared_queue, same_options, lasting, stands, is_broker_name, is_refused, same_kind, same_shape, is_exchange_refused, declared_exchange, declare_exchange_row};
 
 use crate::reason::Reason;
-use crate::row::{Row, nothing, one};
+use crate::row::{Row, lock_refusal, nothing, one};
 use amqp_props::{ExchangeKind, QueueOptions, Text};
 use fed_journal::entry::Entry;
 use fed_journal::place::{ExchangeShape, Place};
@@ -46,11 +46,12 @@ fn is_refused(journal: &[Entry], place: &Place, queue: &Text) -> bool
 fn declared_queue(
     alloc: Global,
     place: &Place,
+    client: u16,
     queue: &Text,
     options: QueueOptions,
     was: Option<QueueOptions>,
 ) -> Result<Row, AllocError>
-    ensures { IfOk result (λ row. row_of row ≡ declared_queue place.now queue.now options was) }
+    ensures { IfOk result (λ row. row_of row ≡ declared_queue place.now client queue.now options was) }
 {
     if let Some(was) = was {
         if same_options(was, options) {
@@ -66,8 +67,20 @@ fn declared_queue(
             place,
             queue,
             options,
+            owner: owner_by(client, options),
         },
     )
+}
+
+/// The connection to which a queue of these options belongs, where the client declares it.
+fn owner_by(client: u16, options: QueueOptions) -> Option<u32>
+    ensures { result ≡ owner_by client options }
+{
+    if options.exclusive {
+        Some(u32::from(client))
+    } else {
+        None
+    }
 }
 
 /// Whether two queues are declared alike.
@@ -85,10 +98,11 @@ pub fn declare_row(
     alloc: Global,
     journal: &[Entry],
     place: &Place,
+    client: u16,
     queue: &Text,
     options: QueueOptions,
 ) -> Result<Row, AllocError>
-    ensures { IfOk result (λ row. row_of row ≡ declare_row journal.now place.now queue.now options) }
+    ensures { IfOk result (λ row. row_of row ≡ declare_row journal.now place.now client queue.now options) }
 {
     if !is_place(journal, place) {
         return Ok(Err(Reason::NoPlace));
@@ -96,9 +110,13 @@ pub fn declare_row(
     if is_refused(journal, place, queue) {
         return Ok(Err(Reason::Refused(403)));
     }
+    if let Some(reason) = lock_refusal(journal, place, client, queue) {
+        return Ok(Err(reason));
+    }
     declared_queue(
         alloc,
         place,
+        client,
         queue,
         options,
         queue_options(journal, place, queue),

@@ -29,7 +29,7 @@ pub fn get_row(
     if !is_place(journal, place) {
         return Ok(Err(Reason::NoPlace));
     }
-    if let Some(reason) = queue_refusal(journal, place, queue) {
+    if let Some(reason) = queue_refusal(journal, place, client, queue) {
         return Ok(Err(reason));
     }
     match first_ready(journal, place, queue) {

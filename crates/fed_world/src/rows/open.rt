@@ -3,7 +3,7 @@ ghost use Rattle.std.specs.Prelude.{◌≡◌, ◌+◌, ◌<◌, ◌^◌, ◌++�
 ghost use Rattle.fed_journal.specs.Phases.{session};
 ghost use Rattle.fed_world.specs.RowOf.{row_of};
 ghost use Rattle.fed_world.specs.Sound.{IsSound};
-ghost use Rattle.fed_world.specs.Open.{open_row, open_if_startable, opened, made_if, is_target_missing};
+ghost use Rattle.fed_world.specs.Open.{open_row, open_if_startable, is_source_locked, opened, made_if, is_target_missing};
 
 use crate::reason::Reason;
 use crate::row::Row;
@@ -14,6 +14,7 @@ use fed_journal::link::{LinkSpec, StartState};
 use fed_journal::place::Place;
 use journal_scan::holds::ready_count;
 use journal_scan::links::link_of;
+use journal_scan::owners::is_exclusive;
 use journal_scan::phases::{is_open, session};
 use std::alloc::{AllocError, Global};
 
@@ -33,6 +34,7 @@ fn push_made(
             place,
             queue,
             options: LASTING,
+            owner: None,
         })?;
     }
     Ok(())
@@ -76,6 +78,16 @@ fn opened(alloc: Global, journal: &[Entry], spec: &LinkSpec) -> Result<Row, Allo
     Ok(Ok(entries))
 }
 
+/// Whether a connection has the source's queue to itself.
+fn is_source_locked(journal: &[Entry], source: &Option<Place>, queue: &Text) -> bool
+    ensures { result ≡ is_source_locked journal.now source.now queue.now }
+{
+    match source {
+        Some(source) => is_exclusive(journal, source, queue),
+        None => false,
+    }
+}
+
 /// The row of `open` for a link by its start state.
 fn open_if_startable(alloc: Global, journal: &[Entry], spec: &LinkSpec) -> Result<Row, AllocError>
     requires { IsSound journal.now }
@@ -87,6 +99,9 @@ fn open_if_startable(alloc: Global, journal: &[Entry], spec: &LinkSpec) -> Resul
         StartState::Start => {
             if is_open(journal, &spec.name) {
                 return Ok(Err(Reason::Live));
+            }
+            if is_source_locked(journal, &spec.source, &spec.source_queue) {
+                return Ok(Err(Reason::NoSource));
             }
             opened(alloc, journal, spec)
         }

@@ -17,14 +17,15 @@ pub fn purge_row(
     alloc: Global,
     journal: &[Entry],
     place: &Place,
+    client: u16,
     queue: &Text,
 ) -> Result<Row, AllocError>
-    ensures { IfOk result (λ row. row_of row ≡ purge_row journal.now place.now queue.now) }
+    ensures { IfOk result (λ row. row_of row ≡ purge_row journal.now place.now client queue.now) }
 {
     if !is_place(journal, place) {
         return Ok(Err(Reason::NoPlace));
     }
-    if let Some(reason) = queue_refusal(journal, place, queue) {
+    if let Some(reason) = queue_refusal(journal, place, client, queue) {
         return Ok(Err(reason));
     }
     let place = place.clone()?;

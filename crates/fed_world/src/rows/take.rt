@@ -2,13 +2,15 @@
 ghost use Rattle.std.specs.Prelude.{◌≡◌, All, IfOk};
 ghost use Rattle.fed_journal.specs.Copies.{IsFitting};
 ghost use Rattle.fed_world.specs.RowOf.{row_of};
-ghost use Rattle.fed_world.specs.Take.{take_row, first_ready_at};
+ghost use Rattle.fed_world.specs.Take.{take_row, is_full, first_ready_at};
 
 use crate::reason::Reason;
 use crate::row::{Row, one};
 use amqp_props::Text;
 use fed_journal::entry::Entry;
+use fed_journal::link::LinkSpec;
 use fed_journal::place::Place;
+use journal_scan::flight::flight_held;
 use journal_scan::holds::first_ready;
 use journal_scan::links::link_of;
 use journal_scan::phases::{is_open, session};
@@ -25,6 +27,19 @@ fn first_ready_at(journal: &[Entry], place: &Option<Place>, queue: &Text) -> Opt
     }
 }
 
+/// Whether the session holds as many copies as the link asks for.
+fn is_full(
+    alloc: Global,
+    journal: &[Entry],
+    spec: &LinkSpec,
+    session: u32,
+) -> Result<bool, AllocError>
+    ensures { IfOk result (λ full. full ≡ is_full journal.now spec.now session) }
+{
+    let held = flight_held(alloc, journal, &spec.name, session)?;
+    Ok(0 < spec.prefetch && spec.prefetch as usize <= held.len())
+}
+
 /// The row of `take`.
 #[tactic(auto, unfolding(crate::specs::Take::take_row))]
 pub fn take_row(alloc: Global, journal: &[Entry], link: &Text) -> Result<Row, AllocError>
@@ -37,9 +52,12 @@ pub fn take_row(alloc: Global, journal: &[Entry], link: &Text) -> Result<Row, Al
     if !is_open(journal, link) {
         return Ok(Err(Reason::NotOpen));
     }
+    let session = session(journal, link);
+    if is_full(alloc, journal, &spec, session)? {
+        return Ok(Err(Reason::Full));
+    }
     match first_ready_at(journal, &spec.source, &spec.source_queue) {
         Some(copy) => {
-            let session = session(journal, link);
             let link = link.clone()?;
             one(
                 alloc,

@@ -29,7 +29,7 @@ returns-in-Ok-Err-clause-held c = subst RemovesHeld c.self.view_is (reached-held
 
 pub returns-after-extend-clause-stored : goal.returns-after-extend-clause-stored
 returns-after-extend-clause-stored c = subst (λ J. LeavesStored J c.args.event.now c.extend.new.journal.entries) c.self.view_is (elim c.match-extend.branch [
-  | in-Ok w ↦ extended-leaves_stored _ _ _ c.args.event.now (sym (ap row_of c.in-Ok-Ok.field-0-is) ∙ c.in-Ok-Ok.ensures.row) w.in-Ok.ensures.ok
+  | in-Ok w ↦ extended-leaves_stored _ _ _ c.args.event.now c.self.invariant.1 (sym (ap row_of c.in-Ok-Ok.field-0-is) ∙ c.in-Ok-Ok.ensures.row) w.in-Ok.ensures.ok
   | in-Err-extend w ↦ same-leaves_stored _ _ c.args.event.now w.in-Err-extend.ensures.err
 ])
 
