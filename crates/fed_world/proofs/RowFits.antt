@@ -38,7 +38,7 @@ use Rattle.fed_world.specs.Publish.{publish_row, publish_refusal, published, fir
 use Rattle.amqp_props.specs.declared.link.QueueOptions.{QueueOptions}
 use Rattle.route_core.specs.declared.binding.Binding.{Binding}
 use Rattle.fed_journal.specs.declared.place.ExchangeShape.{ExchangeShape}
-use Rattle.fed_journal.specs.Configuration.{queue_options, exchange_shape}
+use Rattle.fed_journal.specs.Configuration.{queue_options, exchange_shape, queues_owned}
 use Rattle.fed_journal.specs.Routes.{is_bound, routes}
 use Rattle.fed_world.specs.Bind.{bind_refusal, bind_row, unbind_row}
 use Rattle.fed_world.specs.Flush.{flush_row}
