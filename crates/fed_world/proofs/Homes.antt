@@ -1,5 +1,5 @@
 -- The queue of a copy that is stored, or that a link took, belongs to no connection alone.
-use Rattle.std.proofs.Common.{◌≡◌, ℕ, suc, ◌+◌, ◌-◌, ◌<◌, ◌≤◌, List, [], ◌∷◌, ◌++◌, length, Bool, true, false, Option, Some, None, arith, refl, sym, ap, subst, ◌∙◌, take, drop}
+use Rattle.std.proofs.Common.{◌≡◌, ℕ, zero, suc, ◌+◌, ◌-◌, ◌<◌, ◌≤◌, List, [], ◌∷◌, ◌++◌, length, Bool, true, false, Option, Some, None, arith, refl, sym, ap, subst, ◌∙◌, take, drop}
 use Rattle.std.specs.Prelude.{cond, not, ◌&&◌, nat_le, nat_lt, position, slice_get, option_map, sum_by, find, filter_map}
 use Rattle.std.specs.List.{position_or_len, list_any}
 use Rattle.std.proofs.lemmas.Bool.{false≢true, and_parts, and_from, le-leb, leb-true, ltb-true, lt-ltb}
@@ -34,10 +34,10 @@ position-none p i h = none-some i h
 
 -- the first place in a longer list
 or_len-here : {X : Type 0} (p : X → Bool) (x : X) (xs : List X) → p x ≡ true → position_or_len p (x ∷ xs) ≡ 0
-or_len-here p x xs h = ap (λ b. cond (not b) (suc (position_or_len p xs)) 0) h
+or_len-here p x xs h = ap (λ b. cond (not b) (1 + position_or_len p xs) 0) h
 
 or_len-later : {X : Type 0} (p : X → Bool) (x : X) (xs : List X) → p x ≡ false → position_or_len p (x ∷ xs) ≡ suc (position_or_len p xs)
-or_len-later p x xs h = ap (λ b. cond (not b) (suc (position_or_len p xs)) 0) h
+or_len-later p x xs h = ap (λ b. cond (not b) (1 + position_or_len p xs) 0) h ∙ omega arith
 
 position-here : {X : Type 0} (p : X → Bool) (x : X) (xs : List X) (i : ℕ) → p x ≡ true → position p (x ∷ xs) ≡ Some i → i ≡ 0
 position-here p x xs i h k =
@@ -87,7 +87,7 @@ lasting-home J x c p q (Some name) e h home =
     subst (λ r. is_shared J r q ≡ true) same.0 (subst (λ n. is_shared J x.place n ≡ true) same.1 (lasting-shared (queue_options J x.place name) h))
 
 take-drop : {X : Type 0} (i : ℕ) (xs : List X) → xs ≡ take i xs ++ drop i xs
-take-drop 0 xs = refl
+take-drop zero xs = refl
 take-drop (suc i) [] = refl
 take-drop (suc i) (x ∷ xs) = ap (λ ys. x ∷ ys) (take-drop i xs)
 

@@ -46,7 +46,10 @@ fn options_after(
             options,
             ..
         } if is_queue(place, queue, at, made) => Some(*options),
-        Entry::GoneQueue { place: at, queue: gone } if is_queue(place, queue, at, gone) => None,
+        Entry::GoneQueue {
+            place: at,
+            queue: gone,
+        } if is_queue(place, queue, at, gone) => None,
         _ => was,
     }
 }

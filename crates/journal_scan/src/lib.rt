@@ -7,6 +7,8 @@ pub mod copies;
 pub mod flight;
 pub mod holds;
 pub mod links;
+#[cfg(test)]
+mod owner_tests;
 pub mod owners;
 pub mod phases;
 pub mod routing;

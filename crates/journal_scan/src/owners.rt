@@ -1,5 +1,6 @@
 //! Queues that one connection has to itself, and the queues of a place.
-ghost use Rattle.std.specs.Prelude.{◌≡◌, IfOk, OnOk};
+ghost use Rattle.std.specs.Prelude.{◌≡◌, not, filter, IfOk, OnOk};
+ghost use Rattle.fed_journal.specs.Names.{same_text};
 ghost use Rattle.fed_journal.specs.Configuration.{owner_step, queue_owner, is_connection_in, is_another_in, is_locked, is_exclusive_in, is_exclusive, queues_step, queues_of, goes_with, queues_owned};
 
 use crate::configuration::{is_queue, queue_options};
@@ -19,7 +20,10 @@ fn owner_after(place: &Place, queue: &Text, was: Option<u32>, entry: &Entry) -> 
             owner,
             ..
         } if is_queue(place, queue, at, made) => *owner,
-        Entry::GoneQueue { place: at, queue: gone } if is_queue(place, queue, at, gone) => None,
+        Entry::GoneQueue {
+            place: at,
+            queue: gone,
+        } if is_queue(place, queue, at, gone) => None,
         _ => was,
     }
 }
@@ -70,18 +74,29 @@ pub fn is_exclusive(journal: &[Entry], place: &Place, queue: &Text) -> bool
     is_exclusive_in(queue_options(journal, place, queue))
 }
 
+/// Removes the queue's name.
+fn remove(queues: &mut Vec<Text>, queue: &Text)
+    ensures { queues.new.items ≡ filter (λ name. not (same_text name queue.now)) queues.old.items }
+{
+    queues.retain(|name| name != queue);
+}
+
 /// The queues of the place after one entry more.
 fn enter_queue(queues: &mut Vec<Text>, place: &Place, entry: &Entry) -> Result<(), AllocError>
     ensures { OnOk result (queues.new.items ≡ queues_step place.now queues.old.items entry.now) }
 {
     match entry {
-        Entry::MadeQueue { place: at, queue, .. } if at == place => {
+        Entry::MadeQueue {
+            place: at,
+            queue,
+            ..
+        } if at == place => {
             let queue = queue.clone()?;
             queues.push(queue)?;
             Ok(())
         }
         Entry::GoneQueue { place: at, queue } if at == place => {
-            queues.retain(|name| name != queue);
+            remove(queues, queue);
             Ok(())
         }
         _ => Ok(()),
@@ -90,11 +105,7 @@ fn enter_queue(queues: &mut Vec<Text>, place: &Place, entry: &Entry) -> Result<(
 
 /// The queues of the place, in the order of their making.
 #[tactic(auto, unfolding(fed_journal::specs::Configuration::queues_of))]
-pub fn queues_of(
-    alloc: Global,
-    journal: &[Entry],
-    place: &Place,
-) -> Result<Vec<Text>, AllocError>
+pub fn queues_of(alloc: Global, journal: &[Entry], place: &Place) -> Result<Vec<Text>, AllocError>
     ensures { IfOk result (λ queues. queues.items ≡ queues_of journal.now place.now) }
 {
     let mut queues = Vec::new(alloc);
@@ -122,6 +133,13 @@ fn goes_with(journal: &[Entry], place: &Place, connection: u32, queue: &Text) ->
         && is_connection(connection, queue_owner(journal, place, queue))
 }
 
+/// Keeps those that the connection has to itself.
+fn keep_owned(queues: &mut Vec<Text>, journal: &[Entry], place: &Place, connection: u32)
+    ensures { queues.new.items ≡ filter (goes_with journal.now place.now connection) queues.old.items }
+{
+    queues.retain(|queue| goes_with(journal, place, connection, queue));
+}
+
 /// The queues that the connection has to itself, in the order of their making.
 #[tactic(auto, unfolding(fed_journal::specs::Configuration::queues_owned))]
 pub fn queues_owned(
@@ -133,6 +151,6 @@ pub fn queues_owned(
     ensures { IfOk result (λ queues. queues.items ≡ queues_owned journal.now place.now connection) }
 {
     let mut queues = queues_of(alloc, journal, place)?;
-    queues.retain(|queue| goes_with(journal, place, connection, queue));
+    keep_owned(&mut queues, journal, place, connection);
     Ok(queues)
 }

@@ -49,12 +49,7 @@ fn end_refusal(
 }
 
 /// Why a client is refused the binding, if it is.
-fn bind_refusal(
-    journal: &[Entry],
-    place: &Place,
-    client: u16,
-    binding: &Binding,
-) -> Option<Reason>
+fn bind_refusal(journal: &[Entry], place: &Place, client: u16, binding: &Binding) -> Option<Reason>
     ensures { result ≡ bind_refusal journal.now place.now client binding.now }
 {
     if is_unbindable(&binding.source) || is_unbindable(&binding.dest) {

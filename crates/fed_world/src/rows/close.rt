@@ -14,11 +14,7 @@ use journal_scan::owners::queues_owned;
 use std::alloc::{AllocError, Global};
 
 /// Appends that these queues are gone.
-fn push_gone(
-    place: &Place,
-    queues: &[Text],
-    entries: &mut Vec<Entry>,
-) -> Result<(), AllocError>
+fn push_gone(place: &Place, queues: &[Text], entries: &mut Vec<Entry>) -> Result<(), AllocError>
     ensures { OnOk result (entries.new.items ≡ entries.old.items ++ map (GoneQueue place.now) queues.now) }
 {
     for queue in queues {
