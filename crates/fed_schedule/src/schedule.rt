@@ -253,7 +253,7 @@ pub fn read(alloc: Global, bytes: &[u8]) -> Result<Script, ScheduleFault>
 #[cfg(test)]
 mod tests {
     use super::*;
-    use amqp_props::ExchangeKind;
+    use amqp_props::{ExchangeKind, QueueOptions};
     use fed_journal::place::ExchangeShape;
     use field_tables::FieldValue;
     use route_core::Sort;
@@ -298,6 +298,41 @@ mod tests {
             matches!(&script.events[7].1, Event::Purge { queue, .. } if queue.as_str() == "q")
         );
         assert!(rt; matches!(&script.events[8].1, Event::Close { client: 9, .. }));
+        Ok(())
+    }
+
+    #[test]
+    fn reads_exclusive_queues(rt: HostRuntime) -> Result<(), Fail> {
+        let script = read(
+            rt.alloc(),
+            b"declare a 1 queue q durable exclusive\ndeclare a 1 queue r exclusive",
+        )?;
+        assert!(rt;
+            matches!(
+                &script.events[0].1,
+                Event::DeclareQueue {
+                    options: QueueOptions {
+                        durable: true,
+                        exclusive: true,
+                        auto_delete: false
+                    },
+                    ..
+                }
+            )
+        );
+        assert!(rt;
+            matches!(
+                &script.events[1].1,
+                Event::DeclareQueue {
+                    options: QueueOptions {
+                        durable: false,
+                        exclusive: true,
+                        auto_delete: false
+                    },
+                    ..
+                }
+            )
+        );
         Ok(())
     }
 

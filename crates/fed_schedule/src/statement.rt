@@ -53,7 +53,7 @@ fn queue_options_of(options: &[Octets]) -> QueueOptions
 {
     QueueOptions {
         durable: has_option("durable", options),
-        exclusive: false,
+        exclusive: has_option("exclusive", options),
         auto_delete: false,
     }
 }
