@@ -119,9 +119,6 @@ ok_from : (r : Result (List ℕ) FromHexError) (h : List ℕ) → result_ok r �
 ok_from (Ok octets) h e = cc
 ok_from (Err fault) h e = absurd cc
 
--- digits write octets
-pub digits_write : (w h : List ℕ) → result_ok (decode_of w) ≡ Some h → IsBytes h
-digits_write w h e = (decode_of-ok w h (ok_from (decode_of w) h e)).3
-
-pub raw_len : (w h : List ℕ) (v : Field) → Some h ≡ result_ok (decode_of w) → Some v ≡ spelled_value h → length h ≡ length (value_spelling v)
-raw_len w h v digits e = let t = (spelled-is h v (digits_write w h (sym digits)) (sym e)).takes in sym t
+-- digits write octets, two each
+pub digits_write : (w h : List ℕ) → result_ok (decode_of w) ≡ Some h → (length h ≤ length w) × IsBytes h
+digits_write w h e = let t = decode_of-ok w h (ok_from (decode_of w) h e) in (omega (arith, t.2), t.3)

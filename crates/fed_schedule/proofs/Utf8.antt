@@ -1,12 +1,12 @@
 -- UTF-8 as a test, and texts that were made valid.
-use Rattle.std.proofs.Common.{◌≡◌, ℕ, zero, suc, ◌+◌, ◌<◌, ◌≤◌, List, [], ◌∷◌, length, take, drop, slice_index, nat_lt, eqb, Option, Some, None, Bool, true, false, cond, refl, ap, subst, ◌∙◌, ⊎_elim, eq-eqb, arith}
+use Rattle.std.proofs.Common.{◌≡◌, ℕ, zero, suc, ◌+◌, ◌*◌, ◌<◌, ◌≤◌, List, [], ◌∷◌, ◌++◌, length, take, drop, slice_index, nat_lt, eqb, Option, Some, None, Bool, true, false, cond, refl, ap, subst, ◌∙◌, ⊎_elim, eq-eqb, arith}
 use lib.Utf8.{encode}
 use Rattle.std.specs.Str.{IsUtf8, is_utf8}
 use Rattle.std.specs.Str.Lossy.{valid_len_up_to, utf8_valid_len, second_byte_min, second_byte_max, error_len_after_two, error_len_after_one, error_len_of_some, utf8_error_len, utf8_invalid_len, after_first_chunk, replacement_bytes, utf8_lossy_within, utf8_lossy}
 use Rattle.std.proofs.lemmas.Bool.{cases_eq, ne_eqb}
 use Rattle.std.specs.Option.{unwrap_or}
 use Rattle.std.specs.Int.{is_in_range}
-use Rattle.std.proofs.lemmas.List.{take_all, length-drop}
+use Rattle.std.proofs.lemmas.List.{take_all, length-append, length-take, length-drop}
 use Rattle.std.proofs.lemmas.Str.{IsUtf8-from_is_utf8, is_utf8-from_IsUtf8, IsUtf8-nil, IsUtf8-append, IsUtf8-encode, utf8_valid_len_le}
 
 pub is_utf8_no : (bs : List ℕ) → ¬ (IsUtf8 bs) → is_utf8 bs ≡ false
@@ -49,7 +49,7 @@ invalid_pos bs some =
     either P (nat_lt (length bs) 2) None _ some (either P (is_in_range (second_byte_min (slice_index bs 0)) (second_byte_max (slice_index bs 0)) (slice_index bs 1)) _ (Some 1) after_two one) in
     either P (eqb (length bs) 0) None (error_len_of_some bs) some (either P (is_in_range 0xC2 0xF4 (slice_index bs 0)) _ (Some 1) after_one one)
 
-after-shorter : (bs : List ℕ) → ¬ (utf8_valid_len bs ≡ length bs) → length (after_first_chunk bs) < length bs
+after-shorter : (bs : List ℕ) → ¬ (utf8_valid_len bs ≡ length bs) → utf8_valid_len bs + length (after_first_chunk bs) < length bs
 after-shorter bs faulty =
     let n = utf8_valid_len bs in
     let within = utf8_valid_len_le bs in
@@ -77,3 +77,20 @@ within-IsUtf8 (suc k) bs short = ⊎_elim
 pub utf8_lossy-is_text : (bs : List ℕ) → IsUtf8 (utf8_lossy bs)
 unfolding utf8_lossy
 utf8_lossy-is_text bs = within-IsUtf8 (length bs) bs (omega arith)
+
+-- ---- U+FFFD has three octets, and stands for one at least
+
+within-length : (k : ℕ) (bs : List ℕ) → length bs ≤ k → length (utf8_lossy_within k bs) ≤ 3 * length bs
+within-length zero bs short = omega arith
+within-length (suc k) bs short = ⊎_elim
+    (λ (whole : utf8_valid_len bs ≡ length bs). rw (eq-eqb _ _ whole) (omega arith))
+    (λ (faulty : utf8_valid_len bs ≡ length bs → ⊥).
+    let n = utf8_valid_len bs in
+    let less = after-shorter bs faulty in
+    let rest = utf8_lossy_within k (after_first_chunk bs) in
+    rw (ne_eqb _ _ faulty) (omega (arith, less, within-length k (after_first_chunk bs) (omega arith), length-take n bs, length-append (take n bs) (replacement_bytes ++ rest))))
+    (cases_eq (utf8_valid_len bs) (length bs))
+
+pub length_lossy : (bs : List ℕ) → length (utf8_lossy bs) ≤ 3 * length bs
+unfolding utf8_lossy
+length_lossy bs = within-length (length bs) bs (omega arith)

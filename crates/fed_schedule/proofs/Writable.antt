@@ -1,5 +1,5 @@
 -- What a line that is accepted carries has a spelling on the wire.
-use Rattle.std.proofs.Common.{◌≡◌, ℕ, ◌≤◌, Bool, true, false, cond, eqb, List, [], ◌∷◌, ◌++◌, length, drop, Option, Some, None, Result, Ok, Err, refl, sym, subst, arith}
+use Rattle.std.proofs.Common.{◌≡◌, ℕ, ◌+◌, ◌≤◌, Bool, true, false, cond, eqb, List, [], ◌∷◌, ◌++◌, length, drop, Option, Some, None, Result, Ok, Err, refl, sym, subst, arith}
 use Rattle.std.specs.Prelude.{IfOk, IfSome, ◌||◌, ◌&&◌, ◌==◌, not, replicate, codes}
 use Rattle.std.specs.List.{list_any}
 use Rattle.std.proofs.lemmas.List.Elements.{All-append, All-replicate}
@@ -26,18 +26,19 @@ use Rattle.fed_schedule.specs.declared.script.LineReason.{LineReason}
 use Rattle.fed_schedule.specs.declared.script.LineReason.TheVariants as why
 use Rattle.fed_schedule.specs.declared.statement.Statement.{Statement}
 use Rattle.fed_schedule.specs.declared.statement.Statement.TheVariants as states
-use Rattle.fed_schedule.specs.Words.{word_at, octets_of, text_of}
+use Rattle.fed_schedule.specs.declared.script.TheConstants.{MAX_SCHEDULE}
+use Rattle.fed_schedule.specs.Words.{word_at, spaced_length, octets_of, text_of}
 use Rattle.fed_schedule.specs.Fields.{place_of}
 use Rattle.fed_schedule.specs.Forms.{keyword_of, are_texts, is_unbuilt, is_empty_word, is_miscounted}
 use Rattle.fed_schedule.specs.Options.{without, header_words}
 use Rattle.fed_schedule.specs.Values.{max_header, is_bad_argument_name, is_bad_argument_value, arguments_of}
-use Rattle.fed_schedule.specs.Messages.{header_front, headers_of, headers_length, is_persistent, props_of, message_of}
+use Rattle.fed_schedule.specs.Messages.{header_front, props_of, message_of}
 use Rattle.fed_schedule.specs.Reasons.{is_late, is_bad_body, has_bad_number, has_bad_binding_names, has_bad_publish_names, has_bad_names, is_twice, has_bad_option, has_bad_arguments, has_bad_message, has_bad_value}
 use Rattle.fed_schedule.specs.Statements.{client_at, queue_options_of, exchange_shape_of, declare_event, binding_at, binding_event, publish_event, shovel_event, consume_event, cancel_event, deliver_event, get_event, settle_event, purge_event, close_event, client_event, link_event, statement_of}
 use Rattle.fed_schedule.specs.Times.{head_of, line_of, is_head, is_bad_head, is_single}
 use Rattle.fed_schedule.specs.Schedule.{Reading, AreWritable, are_escaped, single_reason, reason_of, unless_refused, of_form, of_line, judge}
-use Rattle.fed_schedule.proofs.Arguments.{arguments-table}
-use Rattle.fed_schedule.proofs.Lengths.{length_header}
+use Rattle.fed_schedule.proofs.Arguments.{arguments_spelled, binding_names, props_short}
+use Rattle.fed_schedule.proofs.Lengths.{spaced_drop, spaced_line}
 
 -- what a statement carries
 abbrev IsWritableStatement : Statement → Type 0
@@ -46,59 +47,15 @@ IsWritableStatement (states.Event e) = IsWritable e
 
 -- ---- bindings
 
-binding-table : (ws : List (List ℕ)) → has_bad_binding_names ws ≡ false → has_bad_arguments (drop 7 ws) ≡ false → IsTable (arguments_of [] (drop 7 ws))
-unfolding has_bad_binding_names has_bad_arguments
-binding-table ws named valued =
-    let names = or_parts _ (list_any (is_bad_argument_name []) (drop 7 ws)) named in
-    let values = or_parts (list_any (is_bad_argument_value []) (drop 7 ws)) _ valued in
-    let short = ltb-false _ _ values.1 in
-    arguments-table [] (drop 7 ws) names.1 (omega arith)
-
 binding-writable : (action : BindingAction) (ws : List (List ℕ)) → IsTable (arguments_of [] (drop 7 ws)) → IsWritable (binding_event action ws)
 unfolding binding_event binding_at
 binding-writable binding.Bind ws table = table
 binding-writable binding.Unbind ws table = table
 
+binding-table : (ws : List (List ℕ)) → has_bad_binding_names ws ≡ false → spaced_length ws ≤ MAX_SCHEDULE + 1 → IsTable (arguments_of [] (drop 7 ws))
+binding-table ws named few = arguments_spelled [] (drop 7 ws) (binding_names ws named) (omega (arith, few, spaced_drop 7 ws))
+
 -- ---- messages
-
-drop_one : (p : List ℕ → Bool) (ws : List (List ℕ)) → list_any p ws ≡ false → list_any p (drop 1 ws) ≡ false
-drop_one p [] none = none
-drop_one p (w ∷ ws) none = (or_parts (p w) (list_any p ws) none).1
-
-if_dropped : (p : List ℕ → Bool) (b : Bool) (ws : List (List ℕ)) → list_any p ws ≡ false → list_any p (cond b (drop 1 ws) ws) ≡ false
-if_dropped p true ws none = drop_one p ws none
-if_dropped p false ws none = none
-
-fewer : (p : List ℕ → Bool) (ws : List (List ℕ)) → list_any p ws ≡ false → list_any p (header_words ws) ≡ false
-unfolding header_words without
-fewer p ws none = if_dropped p (same_text (word_at ws 0) (codes "persistent")) ws none
-
-headers-writable : (b : Bool) (ws : List (List ℕ)) → eqb (length ws) 0 ≡ b → list_any (is_bad_argument_name header_front) ws ≡ false → headers_length (headers_of ws) ≤ max_header → IfSome (headers_of ws) IsTable
-unfolding headers_of
-headers-writable true ws is named short = rw is tt
-headers-writable false ws is named short = rw is (arguments-table header_front ws named (rw is at short))
-
-message-short : (ws : List (List ℕ)) → has_bad_publish_names ws ≡ false → has_bad_message ws ≡ false → AreShort (props_of ws)
-unfolding has_bad_publish_names has_bad_message props_of
-message-short ws named valued =
-    let hs = header_words (drop 6 ws) in
-    let names = or_parts _ (list_any (is_bad_argument_name header_front) (drop 6 ws)) named in
-    let values = or_parts (is_bad_body (word_at ws 5) || list_any (is_bad_argument_value header_front) hs) _ valued in
-    let short = ltb-false _ _ values.1 in
-    let whole = length_header (length (octets_of (word_at ws 5))) (is_persistent ws) (headers_of hs) in
-    record {
-      content_type = tt;
-      content_encoding = tt;
-      headers = headers-writable (eqb (length hs) 0) hs refl (fewer _ (drop 6 ws) names.1) (omega arith);
-      correlation_id = tt;
-      reply_to = tt;
-      expiration = tt;
-      message_id = tt;
-      type_name = tt;
-      user_id = tt;
-      app_id = tt;
-      reserved = tt;
-    }
 
 body-short : (ws : List (List ℕ)) → has_bad_message ws ≡ false → length (octets_of (word_at ws 5)) ≤ MAX_BODY
 unfolding has_bad_message is_bad_body
@@ -107,9 +64,9 @@ body-short ws valued =
     let body = or_parts (is_bad_body (word_at ws 5)) _ values.0 in
     omega (arith, ltb-false _ _ body.0)
 
-message-writable : (ws : List (List ℕ)) → has_bad_publish_names ws ≡ false → has_bad_message ws ≡ false → IsMessage (message_of ws)
+message-writable : (ws : List (List ℕ)) → has_bad_publish_names ws ≡ false → has_bad_message ws ≡ false → spaced_length ws ≤ MAX_SCHEDULE + 1 → IsMessage (message_of ws)
 unfolding message_of
-message-writable ws named valued = record { short = message-short ws named valued; body = body-short ws valued }
+message-writable ws named valued few = record { short = props_short ws named few; body = body-short ws valued }
 
 -- ---- other events
 
@@ -151,17 +108,17 @@ link-writable Settle l = tt
 
 -- ---- lines
 
-statement-writable : (k : Keyword) (ws : List (List ℕ)) → has_bad_names k ws ≡ false → has_bad_value k ws ≡ false → IsWritableStatement (statement_of k ws)
+statement-writable : (k : Keyword) (ws : List (List ℕ)) → has_bad_names k ws ≡ false → has_bad_value k ws ≡ false → spaced_length ws ≤ MAX_SCHEDULE + 1 → IsWritableStatement (statement_of k ws)
 unfolding has_bad_names has_bad_value statement_of publish_event shovel_event
-statement-writable form.Broker ws named valued = tt
-statement-writable form.Declare ws named valued = declare-writable ws
-statement-writable (form.Binding action) ws named valued = binding-writable action ws (binding-table ws named valued)
-statement-writable form.Publish ws named valued = message-writable ws named valued
-statement-writable form.Flush ws named valued = tt
-statement-writable form.Shovel ws named valued = tt
-statement-writable form.Show ws named valued = tt
-statement-writable (form.Client action) ws named valued = client-writable action ws
-statement-writable (form.Link action) ws named valued = link-writable action _
+statement-writable form.Broker ws named valued few = tt
+statement-writable form.Declare ws named valued few = declare-writable ws
+statement-writable (form.Binding action) ws named valued few = binding-writable action ws (binding-table ws named few)
+statement-writable form.Publish ws named valued few = message-writable ws named valued few
+statement-writable form.Flush ws named valued few = tt
+statement-writable form.Shovel ws named valued few = tt
+statement-writable form.Show ws named valued few = tt
+statement-writable (form.Client action) ws named valued few = client-writable action ws
+statement-writable (form.Link action) ws named valued few = link-writable action _
 
 -- names and values of a line that no reason refuses
 record IsAccepted (k : Keyword) (ws : List (List ℕ)) : Type 0 where
@@ -195,29 +152,29 @@ accepted r k head ws e =
 abbrev IsGood : Result Statement LineReason → Type 0
 IsGood judged = IfOk judged IsWritableStatement
 
-unless-writable : (reason : Option LineReason) (r : Reading) (k : Keyword) (head ws : List (List ℕ)) → reason_of r k head ws ≡ reason → IsGood (unless_refused reason (statement_of k ws))
-unless-writable None r k head ws is = let t = accepted r k head ws is in statement-writable k ws t.named t.valued
-unless-writable (Some reason) r k head ws is = tt
+unless-writable : (reason : Option LineReason) (r : Reading) (k : Keyword) (head ws : List (List ℕ)) → spaced_length ws ≤ MAX_SCHEDULE + 1 → reason_of r k head ws ≡ reason → IsGood (unless_refused reason (statement_of k ws))
+unless-writable None r k head ws few is = let t = accepted r k head ws is in statement-writable k ws t.named t.valued few
+unless-writable (Some reason) r k head ws few is = tt
 
-form-writable : (r : Reading) (head ws : List (List ℕ)) (k : Option Keyword) → IsGood (of_form r head ws k)
-form-writable r head ws None = tt
-form-writable r head ws (Some k) = unless-writable (reason_of r k head ws) r k head ws refl
+form-writable : (r : Reading) (head ws : List (List ℕ)) (k : Option Keyword) → spaced_length ws ≤ MAX_SCHEDULE + 1 → IsGood (of_form r head ws k)
+form-writable r head ws None few = tt
+form-writable r head ws (Some k) few = unless-writable (reason_of r k head ws) r k head ws few refl
 
 if_writable : (b : Bool) (reason : LineReason) (judged : Result Statement LineReason) → IsGood judged → IsGood (cond b (Err reason) judged)
 if_writable true reason judged good = tt
 if_writable false reason judged good = good
 
-line-writable : (r : Reading) (head ws : List (List ℕ)) → IsGood (of_line r head ws)
+line-writable : (r : Reading) (head ws : List (List ℕ)) → spaced_length ws ≤ MAX_SCHEDULE + 1 → IsGood (of_line r head ws)
 unfolding of_line
-line-writable r head ws =
-    if_writable (length ws == 0) why.Count _ (if_writable (is_head head && is_single (word_at ws 0)) (single_reason head ws) _ (form-writable r head ws (keyword_of (word_at ws 0))))
+line-writable r head ws few =
+    if_writable (length ws == 0) why.Count _ (if_writable (is_head head && is_single (word_at ws 0)) (single_reason head ws) _ (form-writable r head ws (keyword_of (word_at ws 0)) few))
 
-judge-writable : (r : Reading) (ws : List (List ℕ)) → IfOk (judge r ws) IsWritableStatement
+judge-writable : (r : Reading) (ws : List (List ℕ)) → spaced_length ws ≤ MAX_SCHEDULE + 1 → IfOk (judge r ws) IsWritableStatement
 unfolding judge
-judge-writable r ws = if_writable (not (are_texts ws)) why.Text _ (line-writable r (head_of ws) (line_of ws))
+judge-writable r ws few = if_writable (not (are_texts ws)) why.Text _ (line-writable r (head_of ws) (line_of ws) (omega (arith, few, spaced_line ws)))
 
-pub judge_event : (r : Reading) (ws : List (List ℕ)) (e : Event) → Ok (states.Event e) ≡ judge r ws → IsWritable e
-judge_event r ws e is = subst IsGood (sym is) (judge-writable r ws)
+pub judge_event : (r : Reading) (ws : List (List ℕ)) (e : Event) → spaced_length ws ≤ MAX_SCHEDULE + 1 → Ok (states.Event e) ≡ judge r ws → IsWritable e
+judge_event r ws e few is = subst IsGood (sym is) (judge-writable r ws few)
 
 pub copies_writable : (es : List (ℕ × Event)) (n count : ℕ) (e : Event) → IsWritable e → AreWritable es → AreWritable (es ++ replicate count (n, e))
 copies_writable es n count e good goods =

@@ -73,7 +73,7 @@ are_texts ws =
     if same_text (word_at ws 0) (codes "publish") then are_texts_but 5 ws else
     if is_times ws && same_text (word_at ws 2) (codes "publish") then are_texts_but 7 ws else list_all is_text ws
 
--- a declaration of a queue that is exclusive or goes with its last consumer
+-- a declaration of a queue that goes with its last consumer (AMQP 0-9-1, queue.declare: auto-delete)
 unfoldable pub is_unbuilt_declare : List (List ℕ) → Bool
 is_unbuilt_declare ws =
     same_text (word_at ws 3) (codes "queue") && nat_le 5 (length ws) && are_queue_options (drop 5 ws) && not (are_built_queue_options (drop 5 ws))

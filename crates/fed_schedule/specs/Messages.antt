@@ -1,7 +1,6 @@
 -- The message of a publication (AMQP 0-9-1, basic.publish and the content that follows it).
 use Rattle.std.specs.Prelude.{ℕ, List, Bool, ◌==◌, length, drop, Option, Some, None, if◌then◌else◌, codes}
 use Rattle.field_tables.specs.Fields.{Pairs}
-use Rattle.field_tables.specs.Tables.{table_spelling}
 use Rattle.amqp_props.specs.declared.message.Message.{Message}
 use Rattle.amqp_props.specs.declared.properties.Properties.{Properties}
 use Rattle.fed_journal.specs.Names.{same_text}
@@ -17,11 +16,6 @@ header_front = codes "header="
 -- a message without header fields has no headers (AMQP 0-9-1, class basic: headers)
 unfoldable pub headers_of : List (List ℕ) → Option Pairs
 headers_of ws = if length ws == 0 then None else Some (arguments_of header_front ws)
-
--- the octets that the headers take
-abbrev pub headers_length : Option Pairs → ℕ
-headers_length None = 0
-headers_length (Some ps) = length (table_spelling ps)
 
 -- `persistent` sets the delivery mode
 abbrev pub is_persistent : List (List ℕ) → Bool

@@ -14,9 +14,9 @@ without option ws = if same_text (word_at ws 0) option then drop 1 ws else ws
 unfoldable pub are_queue_options : List (List ℕ) → Bool
 are_queue_options ws = length (without (codes "auto-delete") (without (codes "exclusive") (without (codes "durable") ws))) == 0
 
--- of these, those that are built: nothing, or `durable`
+-- of these, those that are built: all but `auto-delete`
 unfoldable pub are_built_queue_options : List (List ℕ) → Bool
-are_built_queue_options ws = length (without (codes "durable") ws) == 0
+are_built_queue_options ws = length (without (codes "exclusive") (without (codes "durable") ws)) == 0
 
 -- nothing, or some of an exchange's options in their order (AMQP 0-9-1, exchange.declare)
 unfoldable pub are_exchange_options : List (List ℕ) → Bool

@@ -47,9 +47,13 @@ link_event Settle l = event.Settle l
 abbrev pub client_at : List (List ℕ) → ℕ
 client_at ws = unwrap_or (client_of (word_at ws 2)) 0
 
--- the options of a queue that is declared (AMQP 0-9-1, queue.declare); exclusive and auto-delete ones aren't built yet
+-- the options of a queue that is declared (AMQP 0-9-1, queue.declare); auto-delete ones aren't built yet
 unfoldable pub queue_options_of : List (List ℕ) → QueueOptions
-queue_options_of options = record { durable = has_option (codes "durable") options; exclusive = false; auto_delete = false }
+queue_options_of options = record {
+  durable = has_option (codes "durable") options;
+  exclusive = has_option (codes "exclusive") options;
+  auto_delete = false;
+}
 
 -- the type and the options of an exchange that is declared (AMQP 0-9-1, exchange.declare)
 unfoldable pub exchange_shape_of : List ℕ → List (List ℕ) → ExchangeShape
@@ -59,7 +63,7 @@ exchange_shape_of type options = record {
   internal = has_option (codes "internal") options;
 }
 
--- `declare P C queue NAME [durable]`, `declare P C exchange NAME KIND [durable] [internal]`
+-- `declare P C queue NAME [durable] [exclusive]`, `declare P C exchange NAME KIND [durable] [internal]`
 unfoldable pub declare_event : List (List ℕ) → Event
 declare_event ws =
     if same_text (word_at ws 3) (codes "exchange")

@@ -5,7 +5,7 @@ use Rattle.std.specs.Option.{unwrap_or}
 use Rattle.std.specs.List.{position, starts_with}
 use Rattle.hex.specs.Hex.{decode_of}
 use Rattle.field_tables.specs.Fields.{Field, boolean, signed_long, signed_longlong, long_string, void, Pairs, no_pairs, pair}
-use Rattle.field_tables.specs.Tables.{max_depth, value_spelling}
+use Rattle.field_tables.specs.Tables.{max_depth}
 use Rattle.field_tables.specs.Reading.{value_at}
 use Rattle.field_tables.specs.View.{pairs_of}
 use Rattle.field_tables.specs.declared.fault.TableFault.{TableFault}
@@ -124,10 +124,6 @@ pair_from (Some parts) = (text_of parts.0, unwrap_or (value_of parts.1) void)
 -- the name and the value of an argument
 unfoldable pub argument_of : List ℕ → List ℕ → List ℕ × Field
 argument_of front w = pair_from (named_value front w)
-
--- the octets of a name and its value in a table (AMQP 0-9-1, 4.2.5.5 "Field Tables")
-abbrev pub pair_length : List ℕ × Field → ℕ
-pair_length p = 1 + length p.0 + length (value_spelling p.1)
 
 -- the table of words that begin so, in the order of the words
 unfoldable pub arguments_of : List ℕ → List (List ℕ) → Pairs

@@ -1,6 +1,6 @@
 -- The words of a schedule line, and the texts that they stand for.
-use Rattle.std.specs.Prelude.{ℕ, List, [], ◌∷◌, Bool, true, false, ◌&&◌, ◌||◌, not, if◌then◌else◌, ◌==◌, nat_le, codes}
-use Rattle.std.specs.List.{slice_split, slice_index_or}
+use Rattle.std.specs.Prelude.{ℕ, ◌+◌, length, List, [], ◌∷◌, Bool, true, false, ◌&&◌, ◌||◌, not, if◌then◌else◌, ◌==◌, nat_le, codes}
+use Rattle.std.specs.List.{slice_split, slice_index_or, sum_by}
 use Rattle.std.specs.Str.{is_utf8}
 use Rattle.std.specs.Str.Lossy.{utf8_lossy}
 use Rattle.percent_encoding.specs.Percent.{percent_decode}
@@ -13,6 +13,14 @@ pieces_of separator octets = slice_split (λ b. b == separator) octets
 -- the words of a line stand between single spaces
 unfoldable pub words_of : List ℕ → List (List ℕ)
 words_of line = pieces_of 32 line
+
+-- the octets of a word and of the space after it
+abbrev pub with_space : List ℕ → ℕ
+with_space w = length w + 1
+
+-- the same of all the words of a line
+abbrev pub spaced_length : List (List ℕ) → ℕ
+spaced_length ws = sum_by with_space ws
 
 -- the word at a place, counted from 0; no octets where the line has fewer words
 abbrev pub word_at : List (List ℕ) → ℕ → List ℕ

@@ -1,7 +1,6 @@
 //! The message of a publication.
-ghost use Rattle.std.specs.Prelude.{◌≡◌, ℕ, IfOk, length, min};
-ghost use Rattle.amqp_props.specs.ContentHeader.{header_spelling};
-ghost use Rattle.fed_schedule.specs.Messages.{is_persistent, headers_of, headers_length, props_of, message_of};
+ghost use Rattle.std.specs.Prelude.{◌≡◌, IfOk};
+ghost use Rattle.fed_schedule.specs.Messages.{is_persistent, headers_of, props_of, message_of};
 
 use crate::options::header_words;
 use crate::values::arguments_of;
@@ -27,35 +26,16 @@ fn headers_of(alloc: Global, words: &[Octets]) -> Result<Option<FieldTable>, All
     if words.is_empty() {
         return Ok(None);
     }
-    Ok(Some(arguments_of(alloc, HEADER_FRONT, words)?.table))
+    Ok(Some(arguments_of(alloc, HEADER_FRONT, words)?))
 }
 
+/// The properties that the words of `publish` write.
 #[tactic(auto, unfolding(crate::specs::Messages::props_of))]
-fn props_of(alloc: Global, words: &[Octets]) -> Result<Properties, AllocError>
+pub(crate) fn props_of(alloc: Global, words: &[Octets]) -> Result<Properties, AllocError>
     ensures { IfOk result (λ props. props ≡ props_of words.now) }
 {
     let headers = headers_of(alloc, header_words(words_from(words, 6)))?;
     Ok(properties(is_persistent(words), headers))
-}
-
-/// How many octets the headers take, none where there are no words.
-#[tactic(auto, unfolding(crate::specs::Messages::headers_of))]
-fn headers_len(alloc: Global, words: &[Octets]) -> Result<usize, AllocError>
-    ensures { IfOk result (λ len. len ≡ min (headers_length (headers_of words.now)) usize.MAX) }
-{
-    if words.is_empty() {
-        return Ok(0);
-    }
-    Ok(arguments_of(alloc, HEADER_FRONT, words)?.len)
-}
-
-/// How many octets the content header of the message takes.
-#[tactic(auto, unfolding(crate::specs::Messages::props_of), using(crate::proofs::Lengths::length_header))]
-pub(crate) fn header_len(alloc: Global, words: &[Octets]) -> Result<usize, AllocError>
-    ensures { IfOk result (λ len. (size : ℕ) → len ≡ min (length (header_spelling size (props_of words.now))) usize.MAX) }
-{
-    let headers = headers_len(alloc, header_words(words_from(words, 6)))?;
-    Ok(headers.saturating_add(14 + usize::from(is_persistent(words))))
 }
 
 /// The message that the words of `publish` write.

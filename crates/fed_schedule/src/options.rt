@@ -34,7 +34,8 @@ pub(crate) fn are_queue_options(words: &[Octets]) -> bool
 pub(crate) fn are_built_queue_options(words: &[Octets]) -> bool
     ensures { result ≡ are_built_queue_options words.now }
 {
-    without("durable", words).is_empty()
+    let rest = without("durable", words);
+    without("exclusive", rest).is_empty()
 }
 
 /// Whether the words are none, or some of an exchange's options in their order.

@@ -1,28 +1,32 @@
 //! What makes a line's words no values of its form.
-ghost use Rattle.std.specs.Prelude.{◌≡◌, IfOk};
+ghost use Rattle.std.specs.Prelude.{◌≡◌, ◌≤◌, ◌+◌, [], false, IfOk};
 ghost use Rattle.std.specs.List.{list_any};
 ghost use Rattle.fed_journal.specs.Names.{same_text};
 ghost use Rattle.fed_schedule.specs.Fields.{place_of, is_bad_place};
+ghost use Rattle.fed_schedule.specs.Words.{spaced_length};
 ghost use Rattle.fed_schedule.specs.Options.{is_bad_prefetch};
+ghost use Rattle.fed_schedule.specs.Values.{is_bad_argument_name};
 ghost use Rattle.fed_schedule.specs.Reasons.{is_late, is_bad_client, is_bad_copy, has_bad_client_number, has_bad_number, is_bad_run_name, is_bad_name, has_bad_place_and_name, has_bad_end, has_bad_shovel_names, has_bad_binding_names, has_bad_publish_names, has_bad_consumer_names, has_bad_client_names, has_bad_names, is_twice, has_bad_client_option, has_bad_declare_option, has_bad_option, is_bad_queue, is_bad_body, has_bad_queues, has_bad_arguments, has_bad_message, has_bad_value};
 
 use crate::choices::{exchange_kind_of, sort_of};
 use crate::fields::{is_bad_place, is_long, is_run_name, place_of};
 use crate::keyword::{ClientAction, Keyword};
 use crate::links::is_bad_link;
-use crate::messages::{HEADER_FRONT, header_len};
+use crate::messages::{HEADER_FRONT, props_of};
 use crate::numbers::{client_of, copy_of};
 use crate::options::{
     are_built_queue_options, are_consumer_options, are_exchange_options, header_words, is_alone,
     is_bad_prefetch,
 };
+use crate::script::MAX_SCHEDULE;
 use crate::values::{
     MAX_HEADER, arguments_of, has_bad_argument_name, has_bad_argument_number,
     has_bad_argument_value, has_no_argument,
 };
 use crate::words::{is_word, octets_of, text_of, word_at, words_from};
-use amqp_props::{Octets, Text};
+use amqp_props::{Octets, Text, header_len};
 use fed_journal::text::is_reserved;
+use field_tables::table_len;
 use std::alloc::{AllocError, Global};
 
 /// The most octets of a message's body.
@@ -318,18 +322,22 @@ fn has_bad_queues(alloc: Global, words: &[Octets]) -> Result<bool, AllocError>
 /// Whether an argument's value is none, or the argument table of a binding is too long.
 #[tactic(auto, unfolding(crate::specs::Reasons::has_bad_arguments))]
 fn has_bad_arguments(alloc: Global, words: &[Octets]) -> Result<bool, AllocError>
+    requires named { list_any (is_bad_argument_name []) words.now ≡ false }
+    requires within { spaced_length words.now ≤ MAX_SCHEDULE + 1 }
     ensures { IfOk result (λ bad. bad ≡ has_bad_arguments words.now) }
 {
     if has_bad_argument_value(alloc, "", words)? {
         return Ok(true);
     }
     let arguments = arguments_of(alloc, "", words)?;
-    Ok(arguments.len > MAX_ARGUMENTS)
+    Ok(table_len(arguments.as_table()) > MAX_ARGUMENTS)
 }
 
 /// Whether the body or the content header of a message is too long, or a header field's value is none.
 #[tactic(auto, unfolding(crate::specs::Reasons::has_bad_message))]
 fn has_bad_message(alloc: Global, words: &[Octets]) -> Result<bool, AllocError>
+    requires named { has_bad_publish_names words.now ≡ false }
+    requires within { spaced_length words.now ≤ MAX_SCHEDULE + 1 }
     ensures { IfOk result (λ bad. bad ≡ has_bad_message words.now) }
 {
     if is_bad_body(alloc, word_at(words, 5))? {
@@ -338,8 +346,8 @@ fn has_bad_message(alloc: Global, words: &[Octets]) -> Result<bool, AllocError>
     if has_bad_argument_value(alloc, HEADER_FRONT, header_words(words_from(words, 6)))? {
         return Ok(true);
     }
-    let len = header_len(alloc, words)?;
-    Ok(len > MAX_HEADER)
+    let props = props_of(alloc, words)?;
+    Ok(header_len(&props) > MAX_HEADER)
 }
 
 /// Whether a value isn't one that its place takes.
@@ -349,6 +357,8 @@ pub(crate) fn has_bad_value(
     keyword: Keyword,
     words: &[Octets],
 ) -> Result<bool, AllocError>
+    requires named { has_bad_names keyword words.now ≡ false }
+    requires within { spaced_length words.now ≤ MAX_SCHEDULE + 1 }
     ensures { IfOk result (λ bad. bad ≡ has_bad_value keyword words.now) }
 {
     match keyword {

@@ -2,7 +2,7 @@
 ghost use Rattle.std.specs.Prelude.{◌≡◌, ◌≢◌, ◌+◌, ◌≤◌, ◌<◌, ◌^◌, Ok, Err, Some, None, IfOk, IfErr, OnOk, OnErr, length, not};
 ghost use Rattle.std.specs.List.{list_all};
 ghost use Rattle.fed_journal.specs.Events.{IsWritable};
-ghost use Rattle.fed_schedule.specs.Words.{is_well_escaped, words_of};
+ghost use Rattle.fed_schedule.specs.Words.{is_well_escaped, spaced_length};
 ghost use Rattle.fed_schedule.specs.Schedule.{reading_of, AreWritable, lines_of, without_return, is_passed_over, are_escaped, single_reason, reason_of, of_line, judge, with_events, with_line, script_of, reading};
 
 use crate::copies::push_copies;
@@ -24,6 +24,7 @@ use std::alloc::{AllocError, Global};
 fn lines_of(alloc: Global, bytes: &[u8]) -> Result<Vec<Octets>, AllocError>
     ensures lines { IfOk result (λ lines. lines.items ≡ lines_of bytes.now) }
     ensures within { IfOk result (λ lines. length lines.items ≤ length bytes.now + 1) }
+    ensures spaced { IfOk result (λ lines. spaced_length lines.items ≡ length bytes.now + 1) }
 {
     split(alloc, bytes, b'\n')
 }
@@ -31,7 +32,8 @@ fn lines_of(alloc: Global, bytes: &[u8]) -> Result<Vec<Octets>, AllocError>
 /// The line without a carriage return at its end.
 #[tactic(auto, unfolding(crate::specs::Schedule::without_return))]
 fn without_return(line: &[u8]) -> &[u8]
-    ensures { result.now ≡ without_return line.now }
+    ensures line { result.now ≡ without_return line.now }
+    ensures within { length result.now ≤ length line.now }
 {
     if !line.is_empty() && line[line.len() - 1] == b'\r' {
         return &line[..line.len() - 1];
@@ -85,6 +87,7 @@ fn reason_of(
     head: &[Octets],
     words: &[Octets],
 ) -> Result<Option<LineReason>, AllocError>
+    requires { spaced_length words.now ≤ MAX_SCHEDULE + 1 }
     ensures { IfOk result (λ reason. reason ≡ reason_of (reading_of script.now) keyword head.now words.now) }
 {
     if is_unbuilt(alloc, script.events.as_slice(), keyword, head, words)? {
@@ -125,6 +128,7 @@ fn of_line(
     head: &[Octets],
     words: &[Octets],
 ) -> Result<Result<Statement, LineReason>, AllocError>
+    requires { spaced_length words.now ≤ MAX_SCHEDULE + 1 }
     ensures { IfOk result (λ judged. judged ≡ of_line (reading_of script.now) head.now words.now) }
 {
     if words.is_empty() {
@@ -143,12 +147,13 @@ fn of_line(
 }
 
 /// What the words state after a part of a schedule, or why they are refused.
-#[tactic(auto, unfolding(crate::specs::Schedule::judge))]
+#[tactic(auto, unfolding(crate::specs::Schedule::judge), using(crate::proofs::Lengths::spaced_line))]
 fn judge(
     alloc: Global,
     script: &Script,
     words: &[Octets],
 ) -> Result<Result<Statement, LineReason>, AllocError>
+    requires { spaced_length words.now ≤ MAX_SCHEDULE + 1 }
     ensures { IfOk result (λ judged. judged ≡ judge (reading_of script.now) words.now) }
 {
     if !are_texts(alloc, words)? {
@@ -191,7 +196,8 @@ fn read_line(
     number: u32,
     line: &[u8],
 ) -> Result<(), ScheduleFault>
-    requires { AreWritable script.old.events.items }
+    requires written { AreWritable script.old.events.items }
+    requires within { length line.now ≤ MAX_SCHEDULE }
     ensures ok { OnOk result (with_line number (reading_of script.old) line.now ≡ Ok (reading_of script.new)) }
     ensures writable { OnOk result (AreWritable script.new.events.items) }
     ensures err { IfErr result (λ fault. fault ≢ ScheduleFault.Memory → with_line number (reading_of script.old) line.now ≡ Err fault) }
@@ -219,7 +225,8 @@ fn read_line(
 /// Reads the lines of a schedule.
 #[tactic(auto, unfolding(crate::specs::Schedule::script_of, crate::specs::Schedule::with_lines))]
 fn read_lines(alloc: Global, lines: &[Octets]) -> Result<Script, ScheduleFault>
-    requires { length lines.now ≤ MAX_SCHEDULE + 1 }
+    requires within { length lines.now ≤ MAX_SCHEDULE + 1 }
+    requires spaced { spaced_length lines.now ≤ MAX_SCHEDULE + 1 }
     ensures ok { IfOk result (λ script. script_of lines.now ≡ Ok (reading_of script)) }
     ensures writable { IfOk result (λ script. AreWritable script.events.items) }
     ensures err { IfErr result (λ fault. fault ≢ ScheduleFault.Memory → script_of lines.now ≡ Err fault) }
@@ -253,7 +260,7 @@ pub fn read(alloc: Global, bytes: &[u8]) -> Result<Script, ScheduleFault>
 #[cfg(test)]
 mod tests {
     use super::*;
-    use amqp_props::ExchangeKind;
+    use amqp_props::{ExchangeKind, QueueOptions};
     use fed_journal::place::ExchangeShape;
     use field_tables::FieldValue;
     use route_core::Sort;
@@ -298,6 +305,41 @@ mod tests {
             matches!(&script.events[7].1, Event::Purge { queue, .. } if queue.as_str() == "q")
         );
         assert!(rt; matches!(&script.events[8].1, Event::Close { client: 9, .. }));
+        Ok(())
+    }
+
+    #[test]
+    fn reads_exclusive_queues(rt: HostRuntime) -> Result<(), Fail> {
+        let script = read(
+            rt.alloc(),
+            b"declare a 1 queue q durable exclusive\ndeclare a 1 queue r exclusive",
+        )?;
+        assert!(rt;
+            matches!(
+                &script.events[0].1,
+                Event::DeclareQueue {
+                    options: QueueOptions {
+                        durable: true,
+                        exclusive: true,
+                        auto_delete: false
+                    },
+                    ..
+                }
+            )
+        );
+        assert!(rt;
+            matches!(
+                &script.events[1].1,
+                Event::DeclareQueue {
+                    options: QueueOptions {
+                        durable: false,
+                        exclusive: true,
+                        auto_delete: false
+                    },
+                    ..
+                }
+            )
+        );
         Ok(())
     }
 

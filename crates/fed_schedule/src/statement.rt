@@ -53,7 +53,7 @@ fn queue_options_of(options: &[Octets]) -> QueueOptions
 {
     QueueOptions {
         durable: has_option("durable", options),
-        exclusive: false,
+        exclusive: has_option("exclusive", options),
         auto_delete: false,
     }
 }
@@ -101,13 +101,13 @@ fn binding_at(alloc: Global, words: &[Octets]) -> Result<Binding, AllocError>
     let dest = text_of(alloc, word_at(words, 4))?;
     let source = text_of(alloc, word_at(words, 5))?;
     let key = text_of(alloc, word_at(words, 6))?;
-    let arguments = arguments_of(alloc, "", words_from(words, 7))?;
+    let args = arguments_of(alloc, "", words_from(words, 7))?;
     Ok(Binding {
         source,
         sort: sort_of(word_at(words, 3)).unwrap_or(Sort::Queue),
         dest,
         key,
-        args: arguments.table,
+        args,
     })
 }
 

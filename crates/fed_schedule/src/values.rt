@@ -1,16 +1,16 @@
 //! Arguments and header fields: words NAME=VALUE.
-ghost use Rattle.std.specs.Prelude.{◌≡◌, ◌+◌, ◌∷◌, ◌<◌, ◌≤◌, IfOk, IfSome, Ok, Some, length, string_bytes, min, option_map};
+ghost use Rattle.std.specs.Prelude.{◌≡◌, ◌∷◌, ◌<◌, ◌≤◌, IfOk, IfSome, length, string_bytes, option_map};
 ghost use Rattle.std.specs.Result.{result_ok};
 ghost use Rattle.std.specs.List.{list_any, position};
 ghost use Rattle.hex.specs.Hex.{decode_of};
 ghost use Rattle.std.specs.Option.{unwrap_or};
 ghost use Rattle.field_tables.specs.Fields.{signed_long, signed_longlong, long_string, void};
-ghost use Rattle.field_tables.specs.Tables.{value_spelling, table_spelling, counted_spelling};
+ghost use Rattle.field_tables.specs.Tables.{counted_spelling};
 ghost use Rattle.field_tables.specs.Reading.{table_at};
 ghost use Rattle.field_tables.specs.View.{field_view, table_view};
 ghost use Rattle.fed_schedule.specs.Words.{octets_of};
 ghost use Rattle.fed_schedule.specs.Numbers.{long_of, longlong_of};
-ghost use Rattle.fed_schedule.specs.Values.{max_header, is_octet, cut_at, truth_of, void_of, table_in, only_value, spelled_value, raw_of, typed_value, value_of, is_bad_number_of, is_bad_value_number, named_value, is_no_argument, is_bad_argument_number, is_bad_argument_name, is_bad_argument_value, pair_length, argument_of, arguments_of};
+ghost use Rattle.fed_schedule.specs.Values.{max_header, is_octet, cut_at, truth_of, void_of, table_in, only_value, spelled_value, raw_of, typed_value, value_of, is_bad_number_of, is_bad_value_number, named_value, is_no_argument, is_bad_argument_number, is_bad_argument_name, is_bad_argument_value, argument_of, arguments_of};
 
 use crate::fields::is_long;
 use crate::numbers::{long_of, longlong_of};
@@ -25,28 +25,6 @@ pub(crate) const MAX_HEADER: usize = 131_064;
 
 /// What stands before a separator and what stands after it.
 type Parts<'a> = (&'a [u8], &'a [u8]);
-
-/// A value, and how many octets its spelling takes.
-#[derive(Drop)]
-pub(crate) struct SpelledValue {
-    pub(crate) value: FieldValue,
-    pub(crate) len: usize,
-}
-
-/// A name and its value, and how many octets their spelling takes.
-#[derive(Drop)]
-pub(crate) struct Argument {
-    pub(crate) name: String,
-    pub(crate) value: FieldValue,
-    pub(crate) len: usize,
-}
-
-/// A field table, and how many octets its spelling takes.
-#[derive(Drop)]
-pub(crate) struct Arguments {
-    pub(crate) table: FieldTable,
-    pub(crate) len: usize,
-}
 
 /// Where the first separator stands.
 fn place_of_first(separator: u8, word: &[u8]) -> Option<usize>
@@ -67,74 +45,50 @@ fn cut(separator: u8, word: &[u8]) -> Option<Parts<'_>>
     }
 }
 
-fn text_value(alloc: Global, word: &[u8]) -> Result<SpelledValue, AllocError>
-    ensures value { IfOk result (λ v. field_view v.value ≡ long_string (octets_of word.now)) }
-    ensures len { IfOk result (λ v. v.len ≡ length (value_spelling (field_view v.value))) }
+fn text_value(alloc: Global, word: &[u8]) -> Result<FieldValue, AllocError>
+    ensures { IfOk result (λ v. field_view v ≡ long_string (octets_of word.now)) }
 {
     let octets = decode(alloc, word)?;
-    let len = 5 + octets.len();
-    Ok(SpelledValue {
-        value: FieldValue::Text(octets),
-        len,
-    })
+    Ok(FieldValue::Text(octets))
 }
 
-fn long_value(word: &[u8]) -> Option<SpelledValue>
-    ensures value { option_map (λ v. field_view v.value) result ≡ option_map signed_long (long_of word.now) }
-    ensures len { IfSome result (λ v. v.len ≡ length (value_spelling (field_view v.value))) }
+fn long_value(word: &[u8]) -> Option<FieldValue>
+    ensures { option_map field_view result ≡ option_map signed_long (long_of word.now) }
 {
     match long_of(word) {
-        Some(number) => Some(SpelledValue {
-            value: FieldValue::I32(number),
-            len: 5,
-        }),
+        Some(number) => Some(FieldValue::I32(number)),
         None => None,
     }
 }
 
-fn longlong_value(word: &[u8]) -> Option<SpelledValue>
-    ensures value { option_map (λ v. field_view v.value) result ≡ option_map signed_longlong (longlong_of word.now) }
-    ensures len { IfSome result (λ v. v.len ≡ length (value_spelling (field_view v.value))) }
+fn longlong_value(word: &[u8]) -> Option<FieldValue>
+    ensures { option_map field_view result ≡ option_map signed_longlong (longlong_of word.now) }
 {
     match longlong_of(word) {
-        Some(number) => Some(SpelledValue {
-            value: FieldValue::I64(number),
-            len: 9,
-        }),
+        Some(number) => Some(FieldValue::I64(number)),
         None => None,
     }
 }
 
 #[tactic(auto, unfolding(crate::specs::Values::truth_of))]
-fn truth_value(word: &[u8]) -> Option<SpelledValue>
-    ensures value { option_map (λ v. field_view v.value) result ≡ truth_of word.now }
-    ensures len { IfSome result (λ v. v.len ≡ length (value_spelling (field_view v.value))) }
+fn truth_value(word: &[u8]) -> Option<FieldValue>
+    ensures { option_map field_view result ≡ truth_of word.now }
 {
     if is_word(word, "0") {
-        return Some(SpelledValue {
-            value: FieldValue::Bool(false),
-            len: 2,
-        });
+        return Some(FieldValue::Bool(false));
     }
     if is_word(word, "1") {
-        return Some(SpelledValue {
-            value: FieldValue::Bool(true),
-            len: 2,
-        });
+        return Some(FieldValue::Bool(true));
     }
     None
 }
 
 #[tactic(auto, unfolding(crate::specs::Values::void_of))]
-fn void_value(word: &[u8]) -> Option<SpelledValue>
-    ensures value { option_map (λ v. field_view v.value) result ≡ void_of word.now }
-    ensures len { IfSome result (λ v. v.len ≡ length (value_spelling (field_view v.value))) }
+fn void_value(word: &[u8]) -> Option<FieldValue>
+    ensures { option_map field_view result ≡ void_of word.now }
 {
     if word.is_empty() {
-        return Some(SpelledValue {
-            value: FieldValue::Void,
-            len: 1,
-        });
+        return Some(FieldValue::Void);
     }
     None
 }
@@ -204,16 +158,11 @@ fn octets_of_digits(alloc: Global, digits: &[u8]) -> Result<Option<Vec<u8>>, All
 }
 
 #[tactic(auto, unfolding(crate::specs::Values::raw_of))]
-fn raw_value(alloc: Global, word: &[u8]) -> Result<Option<SpelledValue>, AllocError>
-    ensures value { IfOk result (λ v. option_map (λ v. field_view v.value) v ≡ raw_of word.now) }
-    ensures len { IfOk result (λ v. IfSome v (λ v. v.len ≡ length (value_spelling (field_view v.value)))) }
+fn raw_value(alloc: Global, word: &[u8]) -> Result<Option<FieldValue>, AllocError>
+    ensures { IfOk result (λ v. option_map field_view v ≡ raw_of word.now) }
 {
-    let Some(octets) = octets_of_digits(alloc, word)? else {
-        return Ok(None);
-    };
-    let len = octets.len();
-    match spelled_value(alloc, octets.as_slice())? {
-        Some(value) => Ok(Some(SpelledValue { value, len })),
+    match octets_of_digits(alloc, word)? {
+        Some(octets) => spelled_value(alloc, octets.as_slice()),
         None => Ok(None),
     }
 }
@@ -224,9 +173,8 @@ fn typed_value(
     alloc: Global,
     field_type: &[u8],
     word: &[u8],
-) -> Result<Option<SpelledValue>, AllocError>
-    ensures value { IfOk result (λ v. option_map (λ v. field_view v.value) v ≡ typed_value field_type.now word.now) }
-    ensures len { IfOk result (λ v. IfSome v (λ v. v.len ≡ length (value_spelling (field_view v.value)))) }
+) -> Result<Option<FieldValue>, AllocError>
+    ensures { IfOk result (λ v. option_map field_view v ≡ typed_value field_type.now word.now) }
 {
     if is_word(field_type, "S") {
         return Ok(Some(text_value(alloc, word)?));
@@ -251,9 +199,8 @@ fn typed_value(
 
 /// The value that a word VALUE writes.
 #[tactic(auto, unfolding(crate::specs::Values::value_of))]
-fn value_of(alloc: Global, word: &[u8]) -> Result<Option<SpelledValue>, AllocError>
-    ensures value { IfOk result (λ v. option_map (λ v. field_view v.value) v ≡ value_of word.now) }
-    ensures len { IfOk result (λ v. IfSome v (λ v. v.len ≡ length (value_spelling (field_view v.value)))) }
+fn value_of(alloc: Global, word: &[u8]) -> Result<Option<FieldValue>, AllocError>
+    ensures { IfOk result (λ v. option_map field_view v ≡ value_of word.now) }
 {
     match cut(b':', word) {
         Some((field_type, value)) => typed_value(alloc, field_type, value),
@@ -376,69 +323,42 @@ pub(crate) fn has_bad_argument_value(
 }
 
 /// No value, where a word writes none.
-fn value_or_void(value: Option<SpelledValue>) -> SpelledValue
-    requires { IfSome value (λ v. v.len ≡ length (value_spelling (field_view v.value))) }
-    ensures value { field_view result.value ≡ unwrap_or (option_map (λ v. field_view v.value) value) void }
-    ensures len { result.len ≡ length (value_spelling (field_view result.value)) }
+fn value_or_void(value: Option<FieldValue>) -> FieldValue
+    ensures { field_view result ≡ unwrap_or (option_map field_view value) void }
 {
     match value {
         Some(value) => value,
-        None => SpelledValue {
-            value: FieldValue::Void,
-            len: 1,
-        },
-    }
-}
-
-fn with_len(name: String, value: SpelledValue) -> Argument
-    requires { value.len ≡ length (value_spelling (field_view value.value)) }
-    ensures name { result.name ≡ name }
-    ensures value { result.value ≡ value.value }
-    ensures len { result.len ≡ min (pair_length (string_bytes name, field_view value.value)) usize.MAX }
-{
-    let len = name.len().saturating_add(value.len).saturating_add(1);
-    Argument {
-        name,
-        value: value.value,
-        len,
+        None => FieldValue::Void,
     }
 }
 
 /// The name and the value of a word that begins so.
 #[tactic(auto, unfolding(crate::specs::Values::argument_of))]
-fn argument_of(alloc: Global, front: &str, word: &[u8]) -> Result<Argument, AllocError>
-    ensures pair { IfOk result (λ a. (string_bytes a.name, field_view a.value) ≡ argument_of front.now word.now) }
-    ensures len { IfOk result (λ a. a.len ≡ min (pair_length (string_bytes a.name, field_view a.value)) usize.MAX) }
+fn argument_of(alloc: Global, front: &str, word: &[u8]) -> Result<(String, FieldValue), AllocError>
+    ensures { IfOk result (λ a. (string_bytes a.0, field_view a.1) ≡ argument_of front.now word.now) }
 {
     match named_value(front, word) {
         Some((name, value)) => {
             let name = string_of(alloc, name)?;
             let value = value_or_void(value_of(alloc, value)?);
-            Ok(with_len(name, value))
+            Ok((name, value))
         }
-        None => Ok(with_len(String::new(alloc), value_or_void(None))),
+        None => Ok((String::new(alloc), FieldValue::Void)),
     }
 }
 
-/// The table of the words, which begin so, and how many octets it takes.
+/// The table of the words, which begin so.
 #[tactic(auto, unfolding(crate::specs::Values::arguments_of))]
 pub(crate) fn arguments_of(
     alloc: Global,
     front: &str,
     words: &[Octets],
-) -> Result<Arguments, AllocError>
-    ensures table { IfOk result (λ a. a.table ≡ arguments_of front.now words.now) }
-    ensures len { IfOk result (λ a. a.len ≡ min (length (table_spelling (arguments_of front.now words.now))) usize.MAX) }
+) -> Result<FieldTable, AllocError>
+    ensures { IfOk result (λ table. table ≡ arguments_of front.now words.now) }
 {
     let mut pairs = Vec::new(alloc);
-    let mut len: usize = 4;
     for word in words {
-        let argument = argument_of(alloc, front, word.as_slice())?;
-        len = len.saturating_add(argument.len);
-        pairs.push((argument.name, argument.value))?;
+        pairs.push(argument_of(alloc, front, word.as_slice())?)?;
     }
-    Ok(Arguments {
-        table: FieldTable::new(Table { pairs }),
-        len,
-    })
+    Ok(FieldTable::new(Table { pairs }))
 }

@@ -2,7 +2,7 @@
 ghost use Rattle.std.specs.Prelude.{◌≡◌, ◌+◌, ◌≤◌, IfOk, string_bytes, take, drop, length, codes};
 ghost use Rattle.std.specs.Str.{is_utf8};
 ghost use Rattle.fed_journal.specs.Names.{same_text};
-ghost use Rattle.fed_schedule.specs.Words.{pieces_of, words_of, word_at, octets_of, text_of, is_text, is_hex_digit, begins_with_two_digits, is_well_escaped};
+ghost use Rattle.fed_schedule.specs.Words.{pieces_of, words_of, spaced_length, word_at, octets_of, text_of, is_text, is_hex_digit, begins_with_two_digits, is_well_escaped};
 
 use amqp_props::{Octets, Text};
 use percent_encoding::percent_decode;
@@ -10,10 +10,11 @@ use std::alloc::{AllocError, Global};
 use std::mem;
 
 /// The pieces between the separators.
-#[tactic(auto, using(crate::proofs::Pieces::pieces_cut, crate::proofs::Pieces::pieces_kept, crate::proofs::Pieces::pieces_begun, crate::proofs::Pieces::pieces_ended))]
+#[tactic(auto, using(crate::proofs::Pieces::pieces_cut, crate::proofs::Pieces::pieces_kept, crate::proofs::Pieces::pieces_begun, crate::proofs::Pieces::pieces_ended, crate::proofs::Lengths::spaced_pieces))]
 pub(crate) fn split(alloc: Global, octets: &[u8], separator: u8) -> Result<Vec<Octets>, AllocError>
     ensures pieces { IfOk result (λ pieces. pieces.items ≡ pieces_of separator octets.now) }
     ensures within { IfOk result (λ pieces. length pieces.items ≤ length octets.now + 1) }
+    ensures spaced { IfOk result (λ pieces. spaced_length pieces.items ≡ length octets.now + 1) }
 {
     let mut pieces = Vec::new(alloc);
     let mut piece = Vec::new(alloc);
@@ -32,7 +33,8 @@ pub(crate) fn split(alloc: Global, octets: &[u8], separator: u8) -> Result<Vec<O
 /// The words of a line.
 #[tactic(auto, unfolding(crate::specs::Words::words_of))]
 pub(crate) fn words_of(alloc: Global, line: &[u8]) -> Result<Vec<Octets>, AllocError>
-    ensures { IfOk result (λ words. words.items ≡ words_of line.now) }
+    ensures words { IfOk result (λ words. words.items ≡ words_of line.now) }
+    ensures spaced { IfOk result (λ words. spaced_length words.items ≡ length line.now + 1) }
 {
     split(alloc, line, b' ')
 }
