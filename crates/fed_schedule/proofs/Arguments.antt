@@ -1,5 +1,5 @@
 -- Arguments and header fields whose names are not too long have a spelling.
-use Rattle.std.proofs.Common.{◌≡◌, ℕ, ℤ, pos, negsuc, zero, suc, ◌+◌, ◌*◌, ◌<◌, ◌≤◌, ◌^◌, Bool, true, false, cond, eqb, leb, List, [], ◌∷◌, length, map, drop, Option, Some, None, refl, sym, subst, ◌⊎◌, inl, inr, arith}
+use Rattle.std.proofs.Common.{◌≡◌, ℕ, ℤ, pos, negsuc, zero, suc, ◌+◌, ◌*◌, ◌<◌, ◌≤◌, ◌^◌, Bool, true, false, cond, eqb, leb, List, [], ◌∷◌, length, map, drop, Option, Some, None, refl, subst, ◌⊎◌, inl, inr, arith}
 use Rattle.std.specs.Prelude.{IfSome, option_map, option_and_then, nat_eq, ◌&&◌, codes}
 use Rattle.std.specs.Int.{Width, w32, w64, to_be_bytes}
 use mir.Val.{hbits}

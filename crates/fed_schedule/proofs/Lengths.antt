@@ -10,7 +10,7 @@ use Rattle.field_tables.specs.Fields.{Field}
 use Rattle.field_tables.specs.Tables.{name_spelling, value_spelling, pairs_spelling}
 use Rattle.field_tables.specs.View.{pairs_of}
 use Rattle.fed_journal.specs.Names.{same_text}
-use Rattle.fed_schedule.specs.Words.{pieces_of, words_of, with_space, spaced_length, octets_of, text_of}
+use Rattle.fed_schedule.specs.Words.{pieces_of, with_space, spaced_length, octets_of, text_of}
 use Rattle.fed_schedule.specs.Times.{is_times, line_of}
 use Rattle.fed_schedule.specs.Values.{is_octet, cut_around, cut_at}
 use Rattle.fed_schedule.proofs.Utf8.{length_lossy}

@@ -1,11 +1,10 @@
 -- What a line that is accepted carries has a spelling on the wire.
-use Rattle.std.proofs.Common.{◌≡◌, ℕ, ◌+◌, ◌≤◌, Bool, true, false, cond, eqb, List, [], ◌∷◌, ◌++◌, length, drop, Option, Some, None, Result, Ok, Err, refl, sym, subst, arith}
-use Rattle.std.specs.Prelude.{IfOk, IfSome, ◌||◌, ◌&&◌, ◌==◌, not, replicate, codes}
+use Rattle.std.proofs.Common.{◌≡◌, ℕ, ◌+◌, ◌≤◌, Bool, true, false, cond, List, [], ◌++◌, length, drop, Option, Some, None, Result, Ok, Err, refl, sym, subst, arith}
+use Rattle.std.specs.Prelude.{IfOk, ◌||◌, ◌&&◌, ◌==◌, not, replicate, codes}
 use Rattle.std.specs.List.{list_any}
 use Rattle.std.proofs.lemmas.List.Elements.{All-append, All-replicate}
 use Rattle.std.proofs.lemmas.Bool.{or_parts, ltb-false}
 use Rattle.field_tables.specs.Tables.{IsTable}
-use Rattle.amqp_props.specs.ContentHeader.{AreShort}
 use Rattle.fed_journal.specs.declared.event.Event.{Event}
 use Rattle.fed_journal.specs.declared.event.Event.TheVariants as event
 use Rattle.fed_journal.specs.Events.{IsWritable}
@@ -30,10 +29,10 @@ use Rattle.fed_schedule.specs.declared.script.TheConstants.{MAX_SCHEDULE}
 use Rattle.fed_schedule.specs.Words.{word_at, spaced_length, octets_of, text_of}
 use Rattle.fed_schedule.specs.Fields.{place_of}
 use Rattle.fed_schedule.specs.Forms.{keyword_of, are_texts, is_unbuilt, is_empty_word, is_miscounted}
-use Rattle.fed_schedule.specs.Options.{without, header_words}
-use Rattle.fed_schedule.specs.Values.{max_header, is_bad_argument_name, is_bad_argument_value, arguments_of}
-use Rattle.fed_schedule.specs.Messages.{header_front, props_of, message_of}
-use Rattle.fed_schedule.specs.Reasons.{is_late, is_bad_body, has_bad_number, has_bad_binding_names, has_bad_publish_names, has_bad_names, is_twice, has_bad_option, has_bad_arguments, has_bad_message, has_bad_value}
+use Rattle.fed_schedule.specs.Options.{header_words}
+use Rattle.fed_schedule.specs.Values.{is_bad_argument_value, arguments_of}
+use Rattle.fed_schedule.specs.Messages.{header_front, message_of}
+use Rattle.fed_schedule.specs.Reasons.{is_late, is_bad_body, has_bad_number, has_bad_binding_names, has_bad_publish_names, has_bad_names, is_twice, has_bad_option, has_bad_message, has_bad_value}
 use Rattle.fed_schedule.specs.Statements.{client_at, queue_options_of, exchange_shape_of, declare_event, binding_at, binding_event, publish_event, shovel_event, consume_event, cancel_event, deliver_event, get_event, settle_event, purge_event, close_event, client_event, link_event, statement_of}
 use Rattle.fed_schedule.specs.Times.{head_of, line_of, is_head, is_bad_head, is_single}
 use Rattle.fed_schedule.specs.Schedule.{Reading, AreWritable, are_escaped, single_reason, reason_of, unless_refused, of_form, of_line, judge}

@@ -1,7 +1,7 @@
 //! The forms of lines, by their first word.
 ghost use Rattle.std.specs.Prelude.{◌≡◌, ◌<◌, IfOk};
 ghost use Rattle.std.specs.List.{list_any, list_all};
-ghost use Rattle.fed_schedule.specs.Words.{is_text, word_at};
+ghost use Rattle.fed_schedule.specs.Words.{is_text};
 ghost use Rattle.fed_schedule.specs.Forms.{client_action_of, link_action_of, action_keyword_of, keyword_of, are_texts_but, are_texts, is_unbuilt_declare, line_sets_shovel, is_unbuilt_shovel, is_unbuilt, client_word_count, declare_word_count, word_count, takes_options, is_empty_word, is_miscounted};
 
 use crate::fields::place_of;

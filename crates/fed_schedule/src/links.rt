@@ -1,5 +1,5 @@
 //! Names of links.
-ghost use Rattle.std.specs.Prelude.{◌≡◌, ◌++◌, IfOk, OnOk, flat_map, codes};
+ghost use Rattle.std.specs.Prelude.{◌≡◌, ◌++◌, IfOk, OnOk, flat_map};
 ghost use Rattle.std.specs.List.{list_any};
 ghost use Rattle.fed_schedule.specs.Links.{parts_of, part_word, place_part_word, next_part, joined, link_name, is_long_part, is_long_place, has_long, is_bad_link};
 

@@ -1,7 +1,6 @@
 //! The options of a line, the words after those that its form needs.
 ghost use Rattle.std.specs.Prelude.{◌≡◌};
-ghost use Rattle.std.specs.List.{list_any};
-ghost use Rattle.fed_schedule.specs.Options.{without, are_queue_options, are_built_queue_options, are_exchange_options, is_option, has_option, header_words, is_alone, names_prefetch, prefetch_of, is_bad_prefetch, without_prefetch, are_consumer_options, consumer_prefetch};
+ghost use Rattle.fed_schedule.specs.Options.{without, are_queue_options, are_built_queue_options, are_exchange_options, has_option, header_words, is_alone, names_prefetch, prefetch_of, is_bad_prefetch, without_prefetch, are_consumer_options, consumer_prefetch};
 
 use crate::numbers::prefetch_count_of;
 use crate::words::{is_word, word_at, words_from};

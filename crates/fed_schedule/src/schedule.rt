@@ -1,5 +1,5 @@
 //! The reader of schedules.
-ghost use Rattle.std.specs.Prelude.{◌≡◌, ◌≢◌, ◌+◌, ◌≤◌, ◌<◌, ◌^◌, Ok, Err, Some, None, IfOk, IfErr, OnOk, OnErr, length, not};
+ghost use Rattle.std.specs.Prelude.{◌≡◌, ◌≢◌, ◌+◌, ◌≤◌, ◌<◌, Ok, Err, IfOk, IfErr, OnOk, length};
 ghost use Rattle.std.specs.List.{list_all};
 ghost use Rattle.fed_journal.specs.Events.{IsWritable};
 ghost use Rattle.fed_schedule.specs.Words.{is_well_escaped, spaced_length};
@@ -314,6 +314,7 @@ mod tests {
             rt.alloc(),
             b"declare a 1 queue q durable exclusive\ndeclare a 1 queue r exclusive",
         )?;
+        assert_eq!(rt; script.events.len(), 2);
         assert!(rt;
             matches!(
                 &script.events[0].1,

@@ -25,7 +25,7 @@ pub enum Statement {
     Event(Event),
 }
 
-pub(crate) fn link_event(action: LinkAction, link: Text) -> Event
+fn link_event(action: LinkAction, link: Text) -> Event
     ensures { result ≡ link_event action link }
 {
     match action {
@@ -234,12 +234,7 @@ fn get_event(alloc: Global, words: &[Octets]) -> Result<Event, AllocError>
     })
 }
 
-pub(crate) fn settlement_event(
-    settlement: Settlement,
-    place: Place,
-    client: u16,
-    copy: u64,
-) -> Event
+fn settlement_event(settlement: Settlement, place: Place, client: u16, copy: u64) -> Event
     ensures { result ≡ settlement_event settlement place client copy }
 {
     match settlement {

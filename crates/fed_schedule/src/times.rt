@@ -1,6 +1,6 @@
 //! Lines that repeat another one: `times N LINE`.
 ghost use Rattle.std.specs.Prelude.{◌≡◌};
-ghost use Rattle.fed_schedule.specs.Times.{is_times, head_of, line_of, is_head, is_bad_head, count_of, is_repeated, is_single};
+ghost use Rattle.fed_schedule.specs.Times.{is_times, head_of, line_of, is_bad_head, count_of, is_repeated, is_single};
 
 use crate::numbers::repeat_count_of;
 use crate::words::{is_word, word_at, words_before, words_from};

@@ -1,5 +1,5 @@
 //! The words of a line, and what they stand for.
-ghost use Rattle.std.specs.Prelude.{◌≡◌, ◌+◌, ◌≤◌, IfOk, string_bytes, take, drop, length, codes};
+ghost use Rattle.std.specs.Prelude.{◌≡◌, ◌+◌, ◌≤◌, IfOk, string_bytes, take, drop, length};
 ghost use Rattle.std.specs.Str.{is_utf8};
 ghost use Rattle.fed_journal.specs.Names.{same_text};
 ghost use Rattle.fed_schedule.specs.Words.{pieces_of, words_of, spaced_length, word_at, octets_of, text_of, is_text, is_hex_digit, begins_with_two_digits, is_well_escaped};
