@@ -1,5 +1,9 @@
 pub mod AssemblyLemmas
 pub mod HostLemmas
+pub mod KeptFiles
+pub mod KeptItems
+pub mod KeptLemmas
+pub mod KeptValues
 pub mod OctetLemmas
 pub mod PatternLemmas
 pub mod PlacedLemmas

@@ -1,11 +1,12 @@
 -- What a definitions file means (RabbitMQ's "Schema Definition Export and Import"): a JSON object of lists. A list that is
 -- missing is empty; all other keys are read over.
-use Rattle.std.specs.Prelude.{ℕ, ◌+◌, List, [], ◌∷◌, false, map, codes, Option, Some, None, is_some, option_map, option_and_then, unwrap_or, if◌then◌else◌}
+use Rattle.std.specs.Prelude.{ℕ, ◌+◌, List, [], ◌∷◌, false, map, codes, Option, Some, None, is_some, option_map, unwrap_or, if◌then◌else◌}
 use Rattle.std.specs.Option.{option_or}
 use Rattle.std.specs.Str.{is_utf8}
-use Rattle.serde_json.specs.Data.{Data, Items, no_items}
-use Rattle.serde_json.specs.Find.{get, as_array, as_object}
+use Rattle.serde_json.specs.Data.{Data, Items}
+use Rattle.serde_json.specs.Find.{as_array, as_object}
 use Rattle.serde_json.specs.Read.{read}
+use Rattle.serde_json.specs.Written.{compact_text}
 use Rattle.fed_defs.specs.declared.bindings.Objects.{Objects}
 use Rattle.fed_defs.specs.declared.config.BindingDef.{BindingDef}
 use Rattle.fed_defs.specs.declared.config.ExchangeDef.{ExchangeDef}
@@ -25,7 +26,9 @@ use Rattle.fed_defs.specs.Bindings.{bindings_of, bindings_fault, passed_bindings
 use Rattle.fed_defs.specs.Clusters.{cluster_in, clusters_fault}
 use Rattle.fed_defs.specs.Exchanges.{exchanges_of, exchange_names, passed_exchanges, passed_exchange_count, exchanges_inert, exchanges_fault}
 use Rattle.fed_defs.specs.Faults.{named_fault}
+use Rattle.fed_defs.specs.Kept.{kept_beside}
 use Rattle.fed_defs.specs.Keys.{optional_fault, first_fault}
+use Rattle.fed_defs.specs.Lists.{list_of, items_at}
 use Rattle.fed_defs.specs.Parameters.{parameters_of, parameters_inert, parameters_fault}
 use Rattle.fed_defs.specs.PlacedItems.{host_config}
 use Rattle.fed_defs.specs.PolicyItems.{policies_of, policies_inert, policies_fault}
@@ -34,13 +37,6 @@ use Rattle.fed_defs.specs.Values.{refused_unless}
 use Rattle.fed_defs.specs.Vhosts.{vhost_named, vhosts_of, vhosts_fault}
 
 -- ---- lists
-
--- a list, where one stands at the key
-abbrev pub list_of : List ℕ → Data → Option Items
-list_of k d = option_and_then as_array (get k d)
-
-abbrev pub items_at : List ℕ → Data → Items
-items_at k d = unwrap_or (list_of k d) no_items
 
 -- what is no list is refused, and then what its items refuse
 unfoldable pub list_refusal : Data → Option Refusal
@@ -115,8 +111,18 @@ objects_inert d = queues_inert (items_at (codes "queues") d) + exchanges_inert (
 unfoldable pub inert : Data → ℕ
 inert d = settings_inert d + objects_inert d
 
+-- ---- what is kept of the file
+
+unfoldable pub kept_file : Data → Data
+kept_file d = kept_beside (passed_objects d) d
+
 unfoldable pub definitions_of : List ℕ → Data → Definitions
-definitions_of name d = record { broker = broker_of name d; passed_over = passed_over d; inert = inert d }
+definitions_of name d = record {
+  broker = broker_of name d;
+  passed_over = passed_over d;
+  inert = inert d;
+  kept = compact_text (kept_file d);
+}
 
 -- ---- what is refused
 

@@ -6,6 +6,7 @@ pub mod Exchanges
 pub mod Faults
 pub mod File
 pub mod Inert
+pub mod Kept
 pub mod Keys
 pub mod Links
 pub mod Lists

@@ -1,11 +1,19 @@
 -- What the lists of a definitions file hold, item by item. Some items are passed over, and what they hold is not looked at.
-use Rattle.std.specs.Prelude.{ℕ, ◌+◌, List, [], ◌∷◌, ◌++◌, Bool, Option, None, if◌then◌else◌}
+use Rattle.std.specs.Prelude.{ℕ, ◌+◌, List, [], ◌∷◌, ◌++◌, Bool, Option, None, option_and_then, unwrap_or, if◌then◌else◌}
 use Rattle.std.specs.Option.{option_or}
 use Rattle.serde_json.specs.Data.{Data, Items, no_items, item}
+use Rattle.serde_json.specs.Find.{get, as_array}
 use Rattle.fed_defs.specs.declared.fault.KeyFault.{KeyFault}
 use Rattle.fed_defs.specs.declared.names.Name.{Name}
 use Rattle.fed_defs.specs.Names.{has_name}
 use Rattle.fed_defs.specs.Paths.{whole_fault}
+
+-- a list, where one stands at the key
+abbrev pub list_of : List ℕ → Data → Option Items
+list_of k d = option_and_then as_array (get k d)
+
+abbrev pub items_at : List ℕ → Data → Items
+items_at k d = unwrap_or (list_of k d) no_items
 
 -- what the items mean that aren't passed over
 abbrev pub kept_of : {A : Type 0} → (Data → Bool) → (Data → A) → Items → List A

@@ -3,6 +3,7 @@ ghost use Rattle.std.specs.Prelude.{◌≡◌, ◌<◌, ◌∷◌, length, map, 
 ghost use Rattle.fed_defs.specs.PlacedItems.{AreDistinct, placed_in_each, host_config};
 ghost use Rattle.fed_defs.specs.Vhosts.{AreHosts};
 
+use crate::bindings::Objects;
 use crate::config::{BindingDef, ExchangeDef, ParameterDef, PolicyDef, QueueDef, VhostConfig};
 use crate::lists::Sequence;
 use crate::names::Names;
@@ -20,6 +21,8 @@ pub(crate) struct ObjectLists {
     pub(crate) exchanges: Vec<Placed<ExchangeDef>>,
     /// The bindings.
     pub(crate) bindings: Vec<Placed<BindingDef>>,
+    /// The names of the queues and exchanges that are passed over.
+    pub(crate) passed: Objects,
     /// How many items are passed over.
     pub(crate) passed_over: u32,
     /// How many keys are inert.

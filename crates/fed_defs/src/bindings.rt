@@ -23,7 +23,7 @@ use crate::value::{is_word, misfit};
 use crate::vhosts::{filled_at, own_vhost, text_at};
 use amqp_props::{FieldTable, Text};
 use serde_json::Value;
-use std::alloc::Global;
+use std::alloc::{AllocError, Global};
 
 /// The names of queues and exchanges.
 #[derive(Drop)]
@@ -77,10 +77,9 @@ struct Ends {
 }
 
 /// Reads the names of the ends.
-fn ends_of(alloc: Global, value: &Value) -> Result<Ends, KeyFault>
+fn ends_of(alloc: Global, value: &Value) -> Result<Ends, AllocError>
     ensures source { IfOk result (λ ends. ends.source ≡ named_at (codes "source") (view value.now)) }
     ensures destination { IfOk result (λ ends. ends.destination ≡ named_at (codes "destination") (view value.now)) }
-    ensures fault { IfErr result (λ fault. fault ≡ KeyFault.Memory) }
 {
     let source = named_at(alloc, value, "source")?;
     let destination = named_at(alloc, value, "destination")?;
@@ -99,6 +98,18 @@ fn is_passed_binding(passed: &Objects, ends: &Ends, value: &Value) -> bool
 {
     passed.exchanges.has(&ends.source)
         || leads_among(passed, &ends.destination, destination_of(value))
+}
+
+/// Whether the item is a binding that is passed over.
+pub(crate) fn is_passed_item(
+    alloc: Global,
+    passed: &Objects,
+    value: &Value,
+) -> Result<bool, AllocError>
+    ensures { IfOk result (λ passes. passes ≡ bindings.is_passed_binding passed.now (view value.now)) }
+{
+    let ends = ends_of(alloc, value)?;
+    Ok(is_passed_binding(passed, &ends, value))
 }
 
 /// Whether the binding leads to an exchange.
@@ -304,8 +315,7 @@ fn count_passed(alloc: Global, passed: &Objects, items: &[Value]) -> Result<u32,
 {
     let mut count = 0;
     for item in items {
-        let ends = ends_of(alloc, item)?;
-        if is_passed_binding(passed, &ends, item) {
+        if is_passed_item(alloc, passed, item)? {
             count = add(count, 1)?;
         }
     }

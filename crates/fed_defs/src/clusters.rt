@@ -17,7 +17,7 @@ use std::alloc::Global;
 
 /// Whether the global parameter is another one.
 #[tactic(auto, unfolding(crate::specs::Clusters::is_other_global))]
-fn is_other_global(value: &Value) -> bool
+pub(crate) fn is_other_global(value: &Value) -> bool
     ensures { result ≡ clusters.is_other_global (view value.now) }
 {
     match value_of(value, "name").and_then(Value::as_str) {

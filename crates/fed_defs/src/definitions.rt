@@ -8,6 +8,7 @@ ghost use Rattle.fed_defs.specs.Exchanges as exchanges;
 ghost use Rattle.fed_defs.specs.Faults.{named_fault};
 ghost use Rattle.fed_defs.specs.File as file;
 ghost use Rattle.fed_defs.specs.Keys.{optional_fault};
+ghost use Rattle.fed_defs.specs.Lists as lists;
 ghost use Rattle.fed_defs.specs.Parameters as parameters;
 ghost use Rattle.fed_defs.specs.PlacedItems.{AreDistinct};
 ghost use Rattle.fed_defs.specs.PolicyItems as policies;
@@ -21,6 +22,7 @@ use crate::config::{BrokerConfig, ExchangeDef, ParameterDef, PolicyDef, QueueDef
 use crate::exchanges::{ExchangeList, read_exchanges};
 use crate::fault::{DefFault, KeyFault};
 use crate::inert::add;
+use crate::kept_file::kept_text;
 use crate::keys::{refused, value_of};
 use crate::lists::Sequence;
 use crate::names::{Names, Word};
@@ -43,13 +45,15 @@ pub struct Definitions {
     pub passed_over: u32,
     /// How many keys, parameters and flags have no effect.
     pub inert: u32,
+    /// What is kept of the file, as compact JSON.
+    pub kept: Text,
 }
 
 /// The items of the list at the key, where there is one.
 #[tactic(auto, unfolding(crate::specs::Keys::optional_fault, crate::specs::File::list_refusal))]
 fn items_at<'v>(alloc: Global, value: &'v Value, key: &str) -> Result<Option<&'v [Value]>, KeyFault>
     ensures read { IfOk result (λ items. option_map (λ vs. items_view vs.now) items
-        ≡ file.list_of key.now (view value.now)) }
+        ≡ lists.list_of key.now (view value.now)) }
     ensures ok { OnOk result (optional_fault file.list_refusal key.now (view value.now) ≡ None) }
     ensures fault { IfErr result (λ fault. fault ≢ KeyFault.Memory
         → optional_fault file.list_refusal key.now (view value.now) ≡ Some fault) }
@@ -111,7 +115,7 @@ fn cluster_at(alloc: Global, value: &Value) -> Result<Option<Text>, KeyFault>
 #[tactic(auto, unfolding(crate::specs::File::parameters_list_fault, crate::specs::File::list_fault_at, crate::specs::File::file_parameters))]
 fn parameters_at(alloc: Global, vhosts: &Names, value: &Value) -> Result<ParameterList, KeyFault>
     ensures kept { IfOk result (λ list. list.kept.items ≡ file.file_parameters (view value.now)) }
-    ensures inert { IfOk result (λ list. list.inert ≡ parameters.parameters_inert (file.items_at (codes "parameters") (view value.now))) }
+    ensures inert { IfOk result (λ list. list.inert ≡ parameters.parameters_inert (lists.items_at (codes "parameters") (view value.now))) }
     ensures ok { OnOk result (file.parameters_list_fault vhosts.now (view value.now) ≡ None) }
     ensures fault { IfErr result (λ fault. fault ≢ KeyFault.Memory
         → file.parameters_list_fault vhosts.now (view value.now) ≡ Some fault) }
@@ -126,7 +130,7 @@ fn parameters_at(alloc: Global, vhosts: &Names, value: &Value) -> Result<Paramet
 #[tactic(auto, unfolding(crate::specs::File::policies_list_fault, crate::specs::File::list_fault_at, crate::specs::File::file_policies))]
 fn policies_at(alloc: Global, vhosts: &Names, value: &Value) -> Result<PolicyList, KeyFault>
     ensures kept { IfOk result (λ list. list.kept.items ≡ file.file_policies (view value.now)) }
-    ensures inert { IfOk result (λ list. list.inert ≡ policies.policies_inert (file.items_at (codes "policies") (view value.now))) }
+    ensures inert { IfOk result (λ list. list.inert ≡ policies.policies_inert (lists.items_at (codes "policies") (view value.now))) }
     ensures ok { OnOk result (file.policies_list_fault vhosts.now (view value.now) ≡ None) }
     ensures fault { IfErr result (λ fault. fault ≢ KeyFault.Memory
         → file.policies_list_fault vhosts.now (view value.now) ≡ Some fault) }
@@ -141,10 +145,10 @@ fn policies_at(alloc: Global, vhosts: &Names, value: &Value) -> Result<PolicyLis
 #[tactic(auto, unfolding(crate::specs::File::queues_list_fault, crate::specs::File::list_fault_at, crate::specs::File::file_queues))]
 fn queues_at(alloc: Global, vhosts: &Names, value: &Value) -> Result<QueueList, KeyFault>
     ensures kept { IfOk result (λ list. list.kept.items ≡ file.file_queues (view value.now)) }
-    ensures names { IfOk result (λ list. list.names ≡ queues.queue_names (file.items_at (codes "queues") (view value.now))) }
-    ensures passed { IfOk result (λ list. list.passed ≡ queues.passed_queues [] (file.items_at (codes "queues") (view value.now))) }
-    ensures over { IfOk result (λ list. list.over ≡ queues.passed_queue_count (file.items_at (codes "queues") (view value.now))) }
-    ensures inert { IfOk result (λ list. list.inert ≡ queues.queues_inert (file.items_at (codes "queues") (view value.now))) }
+    ensures names { IfOk result (λ list. list.names ≡ queues.queue_names (lists.items_at (codes "queues") (view value.now))) }
+    ensures passed { IfOk result (λ list. list.passed ≡ queues.passed_queues [] (lists.items_at (codes "queues") (view value.now))) }
+    ensures over { IfOk result (λ list. list.over ≡ queues.passed_queue_count (lists.items_at (codes "queues") (view value.now))) }
+    ensures inert { IfOk result (λ list. list.inert ≡ queues.queues_inert (lists.items_at (codes "queues") (view value.now))) }
     ensures ok { OnOk result (file.queues_list_fault vhosts.now (view value.now) ≡ None) }
     ensures fault { IfErr result (λ fault. fault ≢ KeyFault.Memory
         → file.queues_list_fault vhosts.now (view value.now) ≡ Some fault) }
@@ -159,10 +163,10 @@ fn queues_at(alloc: Global, vhosts: &Names, value: &Value) -> Result<QueueList, 
 #[tactic(auto, unfolding(crate::specs::File::exchanges_list_fault, crate::specs::File::list_fault_at, crate::specs::File::file_exchanges))]
 fn exchanges_at(alloc: Global, vhosts: &Names, value: &Value) -> Result<ExchangeList, KeyFault>
     ensures kept { IfOk result (λ list. list.kept.items ≡ file.file_exchanges (view value.now)) }
-    ensures names { IfOk result (λ list. list.names ≡ exchanges.exchange_names (file.items_at (codes "exchanges") (view value.now))) }
-    ensures passed { IfOk result (λ list. list.passed ≡ exchanges.passed_exchanges [] (file.items_at (codes "exchanges") (view value.now))) }
-    ensures over { IfOk result (λ list. list.over ≡ exchanges.passed_exchange_count (file.items_at (codes "exchanges") (view value.now))) }
-    ensures inert { IfOk result (λ list. list.inert ≡ exchanges.exchanges_inert (file.items_at (codes "exchanges") (view value.now))) }
+    ensures names { IfOk result (λ list. list.names ≡ exchanges.exchange_names (lists.items_at (codes "exchanges") (view value.now))) }
+    ensures passed { IfOk result (λ list. list.passed ≡ exchanges.passed_exchanges [] (lists.items_at (codes "exchanges") (view value.now))) }
+    ensures over { IfOk result (λ list. list.over ≡ exchanges.passed_exchange_count (lists.items_at (codes "exchanges") (view value.now))) }
+    ensures inert { IfOk result (λ list. list.inert ≡ exchanges.exchanges_inert (lists.items_at (codes "exchanges") (view value.now))) }
     ensures ok { OnOk result (file.exchanges_list_fault vhosts.now (view value.now) ≡ None) }
     ensures fault { IfErr result (λ fault. fault ≢ KeyFault.Memory
         → file.exchanges_list_fault vhosts.now (view value.now) ≡ Some fault) }
@@ -182,8 +186,8 @@ fn bindings_at(
     passed: &Objects,
     value: &Value,
 ) -> Result<BindingList, KeyFault>
-    ensures kept { IfOk result (λ list. list.kept.items ≡ bindings.bindings_of passed.now (file.items_at (codes "bindings") (view value.now))) }
-    ensures passed { IfOk result (λ list. list.passed ≡ bindings.passed_bindings passed.now (file.items_at (codes "bindings") (view value.now))) }
+    ensures kept { IfOk result (λ list. list.kept.items ≡ bindings.bindings_of passed.now (lists.items_at (codes "bindings") (view value.now))) }
+    ensures passed { IfOk result (λ list. list.passed ≡ bindings.passed_bindings passed.now (lists.items_at (codes "bindings") (view value.now))) }
     ensures ok { OnOk result (file.bindings_list_fault vhosts.now kept.now passed.now (view value.now) ≡ None) }
     ensures fault { IfErr result (λ fault. fault ≢ KeyFault.Memory
         → file.bindings_list_fault vhosts.now kept.now passed.now (view value.now) ≡ Some fault) }
@@ -269,6 +273,7 @@ fn read_objects(alloc: Global, vhosts: &Names, value: &Value) -> Result<ObjectLi
     ensures queues { IfOk result (λ read. read.queues.items ≡ file.file_queues (view value.now)) }
     ensures exchanges { IfOk result (λ read. read.exchanges.items ≡ file.file_exchanges (view value.now)) }
     ensures bindings { IfOk result (λ read. read.bindings.items ≡ file.file_bindings (view value.now)) }
+    ensures passed { IfOk result (λ read. read.passed ≡ file.passed_objects (view value.now)) }
     ensures passed_over { IfOk result (λ read. read.passed_over ≡ file.passed_over (view value.now)) }
     ensures inert { IfOk result (λ read. read.inert ≡ file.objects_inert (view value.now)) }
     ensures ok { OnOk result (file.objects_fault vhosts.now (view value.now) ≡ None) }
@@ -283,6 +288,7 @@ fn read_objects(alloc: Global, vhosts: &Names, value: &Value) -> Result<ObjectLi
         queues: named.queues,
         exchanges: named.exchanges,
         bindings: bindings.kept,
+        passed: named.passed,
     })
 }
 
@@ -339,6 +345,7 @@ fn read_lists(alloc: Global, value: &Value, name: &str) -> Result<Definitions, K
     let objects = read_objects(alloc, &vhosts, value)?;
     let inert = add(settings.inert, objects.inert)?;
     let passed_over = objects.passed_over;
+    let kept = kept_text(alloc, &objects.passed, value)?;
     let hosts = hosts_of(alloc, &vhosts, settings, objects, value)?;
     let name = Text::from_str(alloc, name)?;
     let cluster = cluster_or(cluster, &name)?;
@@ -350,6 +357,7 @@ fn read_lists(alloc: Global, value: &Value, name: &str) -> Result<Definitions, K
         },
         passed_over,
         inert,
+        kept,
     })
 }
 

@@ -53,7 +53,7 @@ fn is_link_exchange(value: &Value) -> bool
 
 /// Whether the exchange is passed over or read over.
 #[tactic(auto, unfolding(crate::specs::Exchanges::is_passed_exchange))]
-fn is_passed_exchange(value: &Value) -> bool
+pub(crate) fn is_passed_exchange(value: &Value) -> bool
     ensures { result ≡ exchanges.is_passed_exchange (view value.now) }
 {
     is_link_exchange(value) || is_predeclared_at(value)

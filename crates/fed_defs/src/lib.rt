@@ -13,6 +13,12 @@ mod export_tests;
 mod fault;
 mod federation;
 mod inert;
+mod kept;
+mod kept_file;
+mod kept_items;
+mod kept_parameters;
+#[cfg(test)]
+mod kept_tests;
 mod keys;
 mod lists;
 mod names;

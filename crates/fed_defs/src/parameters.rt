@@ -57,7 +57,7 @@ fn component_word(text: &str) -> Option<Component>
 
 /// Whether the parameter is of another component.
 #[tactic(auto, unfolding(crate::specs::Parameters::is_other_component))]
-fn is_other_component(value: &Value) -> bool
+pub(crate) fn is_other_component(value: &Value) -> bool
     ensures { result ≡ parameters.is_other_component (view value.now) }
 {
     match value_of(value, "component").and_then(Value::as_str) {
@@ -67,7 +67,7 @@ fn is_other_component(value: &Value) -> bool
 }
 
 /// The component of a parameter that is kept.
-fn own_component(value: &Value) -> Component
+pub(crate) fn own_component(value: &Value) -> Component
     ensures { result ≡ parameters.own_component (view value.now) }
 {
     let component = value_of(value, "component").and_then(Value::as_str);

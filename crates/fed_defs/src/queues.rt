@@ -100,7 +100,7 @@ pub(crate) fn is_reserved_at(value: &Value) -> bool
 
 /// Whether the queue is passed over.
 #[tactic(auto, unfolding(crate::specs::Queues::is_passed_queue))]
-fn is_passed_queue(value: &Value) -> bool
+pub(crate) fn is_passed_queue(value: &Value) -> bool
     ensures { result ≡ queues.is_passed_queue (view value.now) }
 {
     is_reserved_at(value) || is_type(value, "stream")

@@ -103,6 +103,24 @@ fn refused_parameters(rt: HostRuntime) {
             "parameters[0].value",
         ),
         (
+            "{\"parameters\":[{\"component\":\"federation-upstream\",\"name\":\"x\",\"value\":{\"uri\":\"amqp://a\"}},{\"component\":\"federation-upstream\",\"name\":\"x\",\"value\":{\"uri\":\"amqp://a\"}}]}",
+            "shape",
+            "parameters[1]",
+        ),
+        (
+            "{\"parameters\":[{\"component\":\"federation-upstream\",\"name\":\"nnnnnnnnnnnnnnnnnnnnnnnnnnnnnnnnnnnnnnnnnnnnnnnnnnnnnnnnnnnnnnnnnnnnnnnnnnnnnnnnnnnnnnnnnnnnnnnnnnnnnnnnnnnnnnnnnnnnnnnnnnnnnnnnnnnnnnnnnnnnnnnnnnnnnnnnnnnnnnnnnnnnnnnnnnnnnnnnnnnnnnnnnnnnnnnnnnnnnnnnnnnnnnnnnnnnnnnnnnnnnnnnnnnnnnnnnnnnnnnnnnnnnnnnnnnnnnnn\",\"value\":{\"uri\":\"amqp://a\"}}]}",
+            "limit",
+            "parameters[0].name",
+        ),
+    ] {
+        assert!(rt; is_refused(rt.alloc(), text, kind, path), "at {text}");
+    }
+}
+
+#[test]
+fn refused_upstream_parameters(rt: HostRuntime) {
+    for (text, kind, path) in [
+        (
             "{\"parameters\":[{\"component\":\"federation-upstream\",\"name\":\"x\",\"value\":{}}]}",
             "shape",
             "parameters[0].value.uri",
@@ -142,6 +160,14 @@ fn refused_parameters(rt: HostRuntime) {
             "limit",
             "parameters[0].value.exchange",
         ),
+    ] {
+        assert!(rt; is_refused(rt.alloc(), text, kind, path), "at {text}");
+    }
+}
+
+#[test]
+fn refused_sets_and_shovels(rt: HostRuntime) {
+    for (text, kind, path) in [
         (
             "{\"parameters\":[{\"component\":\"federation-upstream-set\",\"name\":\"x\",\"value\":{}}]}",
             "shape",
@@ -171,16 +197,6 @@ fn refused_parameters(rt: HostRuntime) {
             "{\"parameters\":[{\"component\":\"shovel\",\"name\":\"x\",\"value\":{\"src-uri\":\"amqp://\",\"dest-uri\":\"amqp://\",\"src-queue\":\"q\",\"src-protocol\":\"amqp10\"}}]}",
             "shape",
             "parameters[0].value.src-protocol",
-        ),
-        (
-            "{\"parameters\":[{\"component\":\"federation-upstream\",\"name\":\"x\",\"value\":{\"uri\":\"amqp://a\"}},{\"component\":\"federation-upstream\",\"name\":\"x\",\"value\":{\"uri\":\"amqp://a\"}}]}",
-            "shape",
-            "parameters[1]",
-        ),
-        (
-            "{\"parameters\":[{\"component\":\"federation-upstream\",\"name\":\"nnnnnnnnnnnnnnnnnnnnnnnnnnnnnnnnnnnnnnnnnnnnnnnnnnnnnnnnnnnnnnnnnnnnnnnnnnnnnnnnnnnnnnnnnnnnnnnnnnnnnnnnnnnnnnnnnnnnnnnnnnnnnnnnnnnnnnnnnnnnnnnnnnnnnnnnnnnnnnnnnnnnnnnnnnnnnnnnnnnnnnnnnnnnnnnnnnnnnnnnnnnnnnnnnnnnnnnnnnnnnnnnnnnnnnnnnnnnnnnnnnnnnnnnnnnnnnnn\",\"value\":{\"uri\":\"amqp://a\"}}]}",
-            "limit",
-            "parameters[0].name",
         ),
     ] {
         assert!(rt; is_refused(rt.alloc(), text, kind, path), "at {text}");
@@ -335,6 +351,11 @@ fn refused_bindings(rt: HostRuntime) {
         (
             "{\"queues\":[{\"name\":\"q\"}],\"bindings\":[{\"source\":\"amq.topic\",\"destination\":\"q\",\"routing_key\":\"nnnnnnnnnnnnnnnnnnnnnnnnnnnnnnnnnnnnnnnnnnnnnnnnnnnnnnnnnnnnnnnnnnnnnnnnnnnnnnnnnnnnnnnnnnnnnnnnnnnnnnnnnnnnnnnnnnnnnnnnnnnnnnnnnnnnnnnnnnnnnnnnnnnnnnnnnnnnnnnnnnnnnnnnnnnnnnnnnnnnnnnnnnnnnnnnnnnnnnnnnnnnnnnnnnnnnnnnnnnnnnnnnnnnnnnnnnnnnnnnnnnnnnnnnnnnnnnn\"}]}",
             "limit",
+            "bindings[0].routing_key",
+        ),
+        (
+            "{\"queues\":[{\"name\":\"q\"}],\"bindings\":[{\"source\":\"amq.topic\",\"destination\":\"q\",\"routing_key\":1.5}]}",
+            "float",
             "bindings[0].routing_key",
         ),
         (

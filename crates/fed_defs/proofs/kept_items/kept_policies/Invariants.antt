@@ -1,0 +1,11 @@
+-- What is kept so far and of what is left is what is kept of all items.
+use Rattle.std.proofs.Common.{◌≡◌, ◌++◌, drop, map}
+use Rattle.serde_json.specs.View.{view, items_view}
+use Rattle.fed_defs.specs.Kept.{kept_policy}
+use Rattle.fed_defs.specs.Lists.{kept_of}
+use Rattle.fed_defs.specs.Vhosts.{no_item}
+use Rattle.fed_defs.proofs.kept_items.kept_policies.Given as goal
+
+abbrev pub invariant-loop-item : goal.invariant-loop-item
+invariant-loop-item l =
+    map view l.list.items ++ kept_of no_item kept_policy (items_view (drop l.item-index l.items)) ≡ kept_of no_item kept_policy (items_view l.items)

@@ -1,0 +1,11 @@
+-- What is kept so far and of what is left is what is kept of all items.
+use Rattle.std.proofs.Common.{◌≡◌, ◌++◌, drop, map}
+use Rattle.serde_json.specs.View.{view, items_view}
+use Rattle.fed_defs.specs.Kept.{kept_parameter}
+use Rattle.fed_defs.specs.Lists.{kept_of}
+use Rattle.fed_defs.specs.Parameters.{is_other_component}
+use Rattle.fed_defs.proofs.kept_parameters.kept_parameters.Given as goal
+
+abbrev pub invariant-loop-item : goal.invariant-loop-item
+invariant-loop-item l =
+    map view l.list.items ++ kept_of is_other_component kept_parameter (items_view (drop l.item-index l.items)) ≡ kept_of is_other_component kept_parameter (items_view l.items)
