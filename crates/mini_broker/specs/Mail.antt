@@ -1,6 +1,7 @@
 -- The copies of a queue: their rows, and what each carries (AMQP 0-9-1, 3.1.1 "The Message Queue").
-use Rattle.std.specs.Prelude.{◌≡◌, ◌==◌, ℕ, Bool, true, false, not, if◌then◌else◌, List, [], ◌∷◌, ◌++◌, Option, Some, None, All, map, filter, find}
+use Rattle.std.specs.Prelude.{◌≡◌, ◌==◌, ℕ, Bool, true, false, not, ◌||◌, is_some, if◌then◌else◌, List, [], ◌∷◌, ◌++◌, Option, Some, None, All, map, filter, find}
 use Rattle.std.specs.List.{list_any}
+use Rattle.std.specs.Option.{option_and_then}
 use Rattle.amqp_props.specs.declared.message.Message.{Message}
 use Rattle.queue_core.specs.declared.rows.Row.{Row}
 use Rattle.queue_core.specs.declared.rows.Holder.{Holder}
@@ -37,7 +38,7 @@ entered number message m = record { rows = m.rows ++ rows.entered number ∷ [];
 
 -- from now on it counts as handed out before (AMQP 0-9-1, basic.deliver: redelivered)
 abbrev pub as_seen : ℕ → CopyMessage → CopyMessage
-as_seen number copy = record copy { again = if copy.number == number then true else copy.again }
+as_seen number copy = record copy { again = (copy.number == number) || copy.again }
 
 -- the copy is handed to the holder (AMQP 0-9-1, basic.deliver)
 abbrev pub handed : ℕ → Holder → Mail → Mail
@@ -47,14 +48,30 @@ handed number holder m = record { rows = rows.handed number holder m.rows; copie
 abbrev pub left : ℕ → Mail → Mail
 left number m = record { rows = rows.without number m.rows; copies = filter (λ copy. not (copy.number == number)) m.copies }
 
+-- handed out for good, or to be acknowledged (AMQP 0-9-1, basic.consume and basic.get: no-ack)
+abbrev pub given : ℕ → Holder → Bool → Mail → Mail
+given number holder no_ack m = if no_ack then left number m else handed number holder m
+
 -- the copy is ready again at its place (RabbitMQ, Confirms: Negative Acknowledgement and Requeuing of Deliveries)
 abbrev pub released : ℕ → Mail → Mail
 released number m = record m { rows = rows.released number m.rows }
 
+-- what the client held is ready again (RabbitMQ, Confirms: Automatic Requeueing of Deliveries)
+abbrev pub released_from : ℕ → Mail → Mail
+released_from client m = record m { rows = rows.released_client client m.rows }
+
+-- the copies among these that are held
+abbrev pub held_copies : List Row → List CopyMessage → List CopyMessage
+held_copies left copies = filter (λ copy. is_some (rows.holder_of copy.number left)) copies
+
 -- what is held stays (AMQP 0-9-1, queue.purge)
 abbrev pub purged : Mail → Mail
-purged m = let kept = filter rows.is_held m.rows in record { rows = kept; copies = filter (λ copy. rows.has copy.number kept) m.copies }
+purged m = record { rows = filter rows.is_held m.rows; copies = held_copies (filter rows.is_held m.rows) m.copies }
 
 -- what is in the queue is stored (RabbitMQ, Persistence Configuration)
 abbrev pub stored : Mail → Mail
 stored m = record m { rows = rows.all_stored m.rows }
+
+-- what would be handed out now, with its message (AMQP 0-9-1, basic.get)
+abbrev pub first_copy : Mail → Option CopyMessage
+first_copy m = option_and_then (λ number. copy_of number m.copies) (rows.first_ready m.rows)

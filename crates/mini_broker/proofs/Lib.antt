@@ -1,0 +1,2 @@
+mod MailLemmas
+mod QueueLemmas
