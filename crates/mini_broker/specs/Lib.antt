@@ -1,2 +1,10 @@
+pub mod Answers
+pub mod Consumers
+pub mod Declare
+pub mod Exchanges
+pub mod Inside
 pub mod Mail
+pub mod Names
 pub mod Queues
+pub mod State
+pub mod Vhosts

@@ -1,5 +1,5 @@
 -- The queues of a virtual host under their names, in the order of making (AMQP 0-9-1, 3.1.1 "The Message Queue").
-use Rattle.std.specs.Prelude.{ℕ, Bool, if◌then◌else◌, List, [], ◌∷◌, Option, All, count_by}
+use Rattle.std.specs.Prelude.{ℕ, Bool, if◌then◌else◌, List, [], ◌∷◌, Option, All, count_by, length}
 use Rattle.std.specs.Option.{option_and_then, option_map_or}
 use Rattle.std.specs.Map.{lookup}
 use Rattle.std.specs.Str.{bytes_eq}
@@ -39,3 +39,7 @@ first_in name queues = option_and_then (λ queue. first_copy queue.mail) (queue_
 -- how many copies are ready (AMQP 0-9-1, queue.declare-ok: message-count)
 abbrev pub ready_count : List ℕ → List Named → ℕ
 ready_count name queues = option_map_or (λ queue. count_by rows.is_ready queue.mail.rows) (queue_of name queues) 0
+
+-- how many copies there are, ready or held
+abbrev pub copy_count : List ℕ → List Named → ℕ
+copy_count name queues = option_map_or (λ queue. length queue.mail.rows) (queue_of name queues) 0
