@@ -1,2 +1,4 @@
 mod MailLemmas
 mod QueueLemmas
+mod NameLemmas
+mod AnswerLemmas

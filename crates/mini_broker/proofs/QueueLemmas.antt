@@ -1,7 +1,7 @@
 -- The table of queues as the list of them.
-use Rattle.std.proofs.Common.{◌≡◌, ℕ, zero, suc, ◌+◌, Bool, true, false, cond, not, List, [], ◌∷◌, ◌++◌, Option, Some, None, String, string_bytes, position, slice_get, is_some, unwrap_or, refl, ap, sym, ◌∙◌, subst, arith, map}
-use Rattle.std.specs.Prelude.{All, Result, Ok, Err, OnOk, OnErr, IfSome, IfNone}
-use Rattle.std.specs.List.{position_or_len}
+use Rattle.std.proofs.Common.{◌≡◌, ℕ, zero, suc, ◌+◌, Bool, true, false, cond, not, List, [], ◌∷◌, ◌++◌, Option, Some, None, String, string_bytes, position, slice_get, is_some, unwrap_or, refl, ap, sym, ◌∙◌, subst, arith, map, take, drop}
+use Rattle.std.specs.Prelude.{All, ◌||◌, Result, Ok, Err, OnOk, OnErr, IfSome, IfNone}
+use Rattle.std.specs.List.{position_or_len, list_any}
 use Rattle.std.specs.Map.{lookup, keys_of, values_of}
 use Rattle.std.specs.Str.{bytes_eq}
 use Rattle.std.proofs.lemmas.Bool.{true≢false, false≢true}
@@ -9,7 +9,7 @@ use Rattle.std.proofs.lemmas.List.Elements.{All-head, All-tail}
 use Rattle.indexmap.specs.IndexMap.{set_value_at}
 use Rattle.indexmap.proofs.MapLemmas.{Found-position}
 use Rattle.mini_broker.specs.declared.standing.StandingQueue.{StandingQueue}
-use Rattle.mini_broker.specs.Queues.{Named, queue_of, changed}
+use Rattle.mini_broker.specs.Queues.{Named, queue_of, changed, all_changed}
 
 abbrev pub Entries : Type 0 → Type 0
 Entries Z = List (String Z × StandingQueue)
@@ -99,3 +99,29 @@ written name change es queues i v w view place at is = changed_at name change es
 -- a write of what stood there changes nothing
 pub rewritten : {Z : Type 0} (es : Entries Z) (queues : List Named) (i : ℕ) (v w : StandingQueue) → named es ≡ queues → slice_get (values_of es) i ≡ Some v → w ≡ v → named (set_value_at es i w) ≡ queues
 rewritten es queues i v w view at is = ap named (set_same es i v w at is) ∙ view
+
+abbrev list : {Z : Type 0} → Entries Z → Entries Z
+list es = es
+
+-- one more queue is changed
+pub swept_more : {Z : Type 0} (change : StandingQueue → StandingQueue) (was now : Entries Z) (i : ℕ) (v w : StandingQueue) → now ≡ map (λ e. (e.0, change e.1)) (take i was) ++ drop i was → slice_get (values_of now) i ≡ Some v → w ≡ change v → set_value_at now i w ≡ map (λ e. (e.0, change e.1)) (take (suc i) was) ++ drop (suc i) was
+swept_more {Z} change [] now i v w so at is = absurd (true≢false (sym (ap is_some at) ∙ gone i))
+  where
+    none : (j : ℕ) → map (λ (e : String Z × StandingQueue). (e.0, change e.1)) (take j (list [])) ++ drop j (list []) ≡ list []
+    none zero = refl
+    none (suc j) = refl
+    gone : (j : ℕ) → is_some (slice_get (values_of now) j) ≡ false
+    gone j = ap (λ es. is_some (slice_get (values_of es) j)) (so ∙ none i)
+swept_more {Z} change (e ∷ was) now zero v w so at is =
+    ap (λ es. set_value_at es 0 w) so ∙ ap (λ x. (e.0, x) ∷ was) (is ∙ ap change (sym (same_some (ap (λ es. slice_get (values_of es) 0) (sym so) ∙ at))))
+swept_more {Z} change (e ∷ was) now (suc i) v w so at is =
+    ap (λ es. set_value_at es (suc i) w) so
+    ∙ ap (λ rest. (e.0, change e.1) ∷ rest) (swept_more change was (map (λ e. (e.0, change e.1)) (take i was) ++ drop i was) i v w refl (ap (λ es. slice_get (values_of es) (suc i)) (sym so) ∙ at) is)
+
+pub named_swept : {Z : Type 0} (change : StandingQueue → StandingQueue) (es : Entries Z) → named (map (λ e. (e.0, change e.1)) es) ≡ all_changed change (named es)
+named_swept change [] = refl
+named_swept change (e ∷ es) = ap (λ rest. (string_bytes e.0, change e.1) ∷ rest) (named_swept change es)
+
+pub any_named : {Z : Type 0} (test : StandingQueue → Bool) (es : Entries Z) → list_any test (values_of es) ≡ list_any (λ q. test q.1) (named es)
+any_named test [] = refl
+any_named test (e ∷ es) = ap (λ b. test e.1 || b) (any_named test es)

@@ -8,3 +8,7 @@ pub mod Names
 pub mod Queues
 pub mod State
 pub mod Vhosts
+pub mod Bind
+pub mod Consume
+pub mod Deliver
+pub mod Settle

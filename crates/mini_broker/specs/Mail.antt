@@ -1,12 +1,14 @@
 -- The copies of a queue: their rows, and what each carries (AMQP 0-9-1, 3.1.1 "The Message Queue").
 use Rattle.std.specs.Prelude.{◌≡◌, ◌==◌, ℕ, Bool, true, false, not, ◌||◌, is_some, if◌then◌else◌, List, [], ◌∷◌, ◌++◌, Option, Some, None, All, map, filter, find}
 use Rattle.std.specs.List.{list_any}
-use Rattle.std.specs.Option.{option_and_then}
+use Rattle.std.specs.Option.{option_and_then, option_map_or}
 use Rattle.amqp_props.specs.declared.message.Message.{Message}
 use Rattle.queue_core.specs.declared.rows.Row.{Row}
 use Rattle.queue_core.specs.declared.rows.Holder.{Holder}
 use Rattle.queue_core.specs.Rows as rows
 use Rattle.mini_broker.specs.declared.mailbox.CopyMessage.{CopyMessage}
+use Rattle.mini_broker.specs.declared.mailbox.Sweep.{Sweep}
+use Rattle.mini_broker.specs.declared.mailbox.Sweep.TheVariants.{Store, Free, Leave, Release}
 
 pub record Mail : Type 0 where
   pub rows : List Row
@@ -75,3 +77,14 @@ stored m = record m { rows = rows.all_stored m.rows }
 -- what would be handed out now, with its message (AMQP 0-9-1, basic.get)
 abbrev pub first_copy : Mail → Option CopyMessage
 first_copy m = option_and_then (λ number. copy_of number m.copies) (rows.first_ready m.rows)
+
+-- a consumer of the client holds the copy (AMQP 0-9-1, Acknowledgements)
+abbrev pub is_held_at : ℕ → ℕ → Mail → Bool
+is_held_at client number m = option_map_or (rows.is_of_client client) (rows.holder_of number m.rows) false
+
+-- what is done to every queue: a flush, the end of a connection, and an answer for a copy that the client holds
+abbrev pub swept : Sweep → Mail → Mail
+swept Store m = stored m
+swept (Free client) m = released_from client m
+swept (Leave client number) m = if is_held_at client number m then left number m else m
+swept (Release client number) m = if is_held_at client number m then released number m else m

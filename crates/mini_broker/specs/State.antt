@@ -26,3 +26,7 @@ pub record AreRouted (routing : Routing) (queues : List Named) (exchanges : List
   pub queue_names : (name : List ℕ) → has sorts.Queue name routing.objects ≡ is_some (queue_of name queues)
   pub exchange_names : (name : List ℕ) → has sorts.Exchange name routing.objects ≡ is_some (shape_of name exchanges)
   pub numbers : IsNext (nodes.Queue made) routing
+
+-- queues of the same names
+abbrev pub SameNames : List Named → List Named → Type 0
+SameNames was now = (name : List ℕ) → is_some (queue_of name now) ≡ is_some (queue_of name was)

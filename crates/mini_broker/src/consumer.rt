@@ -26,7 +26,7 @@ pub struct Consumer {
 }
 
 /// Whether it is the client's consumer of that tag.
-fn is_consumer(consumer: &Consumer, who: Client, tag: &str) -> bool
+pub(crate) fn is_consumer(consumer: &Consumer, who: Client, tag: &str) -> bool
     ensures { result ≡ is_this_consumer who tag.now consumer.now }
 {
     consumer.client == who && consumer.tag.as_str() == tag

@@ -1,6 +1,7 @@
 //! Queues and exchanges are declared.
 
-ghost use Rattle.std.specs.Prelude.{◌≡◌, ◌∷◌, ◌++◌, [], false, None, Some, OnOk, OnErr};
+ghost use Rattle.std.specs.Prelude.{◌≡◌, ◌≢◌, ◌∷◌, ◌++◌, [], true, false, None, Some, Ok, Err, OnOk, OnErr, IfErr};
+ghost use Rattle.std.specs.Str.{bytes_eq};
 ghost use Rattle.route_core.specs.declared.object.Sort.TheVariants as sorts;
 ghost use Rattle.route_core.specs.declared.object.Node.TheVariants as nodes;
 ghost use Rattle.route_core.specs.Routing.{stands, IsNext, with_object};
@@ -136,7 +137,9 @@ fn declared_again(
     options: QueueOptions,
     queue: &StandingQueue,
 ) -> Result<bool, ClientFault>
-    ensures { result ≡ queue_again who options (Some queue.now) }
+    ensures answer { result ≡ queue_again who options (Some queue.now) }
+    ensures old { result ≢ Ok true }
+    ensures refused { result ≢ Err ClientFault.Memory }
 {
     if is_locked(who, queue) {
         Err(ClientFault::Refused(405))
@@ -156,7 +159,9 @@ impl Vhost {
         name: &str,
         options: QueueOptions,
     ) -> Result<bool, ClientFault>
-        ensures { result ≡ declare_answer who name.now options self.now }
+        ensures answer { result ≡ declare_answer who name.now options self.now }
+        ensures free { result ≡ Ok true → queue_of name.now self.now.queues ≡ None }
+        ensures refused { result ≢ Err ClientFault.Memory }
     {
         match self.queues.find(name) {
             Some(_) if is_refused_queue(name, true) => Err(ClientFault::Refused(403)),
@@ -164,5 +169,115 @@ impl Vhost {
             None if is_refused_queue(name, false) => Err(ClientFault::Refused(403)),
             None => Ok(true),
         }
+    }
+
+    /// How the declaration of an exchange is answered.
+    #[tactic(auto, unfolding(crate::specs::Declare::declare_exchange_answer))]
+    fn declares_exchange(&self, name: &str, shape: ExchangeShape) -> Result<bool, ClientFault>
+        ensures answer { result ≡ declare_exchange_answer name.now shape self.now }
+        ensures free { result ≡ Ok true → shape_of name.now self.now.exchanges ≡ None }
+        ensures named { result ≡ Ok true → bytes_eq name.now [] ≡ false }
+        ensures refused { result ≢ Err ClientFault.Memory }
+    {
+        match self.exchanges.find(name) {
+            Some(_) if is_refused_exchange(name, true) => Err(ClientFault::Refused(403)),
+            Some(was) if same_shape(was, shape) => Ok(false),
+            Some(_) => Err(ClientFault::Refused(406)),
+            None if is_refused_exchange(name, false) => Err(ClientFault::Refused(403)),
+            None => Ok(true),
+        }
+    }
+
+    /// Makes a queue that isn't there.
+    ///
+    /// # Errors
+    ///
+    /// For want of memory; the virtual host is then as it was.
+    fn make_queue(
+        &mut self,
+        name: &str,
+        options: QueueOptions,
+        owner: Option<u32>,
+    ) -> Result<(), ClientFault>
+        requires { queue_of name.now self.old.queues ≡ None }
+        ensures made { OnOk result (self.new ≡ with_queue name.now options owner self.old) }
+        ensures err { OnErr result (self.new ≡ self.old) }
+        ensures memory { IfErr result (λ e. e ≡ ClientFault.Memory) }
+    {
+        if self.made == u32::MAX {
+            return Err(ClientFault::Memory);
+        }
+        let queue = StandingQueue {
+            number: self.made,
+            options,
+            owner,
+            mail: Mailbox::new(self.alloc),
+        };
+        stand_queue(self.alloc, &mut self.router, &mut self.queues, name, queue)?;
+        self.made += 1;
+        Ok(())
+    }
+
+    /// Makes an exchange that isn't there.
+    ///
+    /// # Errors
+    ///
+    /// For want of memory; the virtual host is then as it was.
+    fn make_exchange(&mut self, name: &str, shape: ExchangeShape) -> Result<(), ClientFault>
+        requires free { shape_of name.now self.old.exchanges ≡ None }
+        requires named { bytes_eq name.now [] ≡ false }
+        ensures made { OnOk result (self.new ≡ with_exchange name.now shape self.old) }
+        ensures err { OnErr result (self.new ≡ self.old) }
+        ensures memory { IfErr result (λ e. e ≡ ClientFault.Memory) }
+    {
+        stand_exchange(self.alloc, &mut self.router, &mut self.exchanges, name, shape)?;
+        Ok(())
+    }
+
+    /// Declares a queue for a client; whether it was made.
+    ///
+    /// # Errors
+    ///
+    /// 403 for a name that clients can't use, 405 for a queue that another connection has to itself, 406 for one that
+    /// was declared otherwise, or for want of memory; the virtual host is then as it was.
+    pub fn declare_queue(
+        &mut self,
+        who: Client,
+        name: &str,
+        options: QueueOptions,
+    ) -> Result<bool, ClientFault>
+        ensures answer { IsAnswer result (declare_answer who name.now options self.old) }
+        ensures made { result ≡ Ok true → self.new ≡ with_queue name.now options (owner_by who options) self.old }
+        ensures there { result ≡ Ok false → self.new ≡ self.old }
+        ensures err { OnErr result (self.new ≡ self.old) }
+    {
+        if !self.declares_queue(who, name, options)? {
+            return Ok(false);
+        }
+        self.make_queue(name, options, owner_of(who, options))?;
+        Ok(true)
+    }
+
+    /// Declares an exchange for a client; whether it was made.
+    ///
+    /// # Errors
+    ///
+    /// 403 for a name that clients can't use, 406 for an exchange that was declared otherwise, or for want of memory;
+    /// the virtual host is then as it was.
+    pub fn declare_exchange(
+        &mut self,
+        name: &str,
+        shape: ExchangeShape,
+    ) -> Result<bool, ClientFault>
+        ensures answer { IsAnswer result (declare_exchange_answer name.now shape self.old) }
+        ensures made { result ≡ Ok true → self.new ≡ with_exchange name.now shape self.old }
+        ensures there { result ≡ Ok false → self.new ≡ self.old }
+        ensures err { OnErr result (self.new ≡ self.old) }
+    {
+        if !self.declares_exchange(name, shape)? {
+            return Ok(false);
+        }
+        self.make_exchange(name, shape)?;
+        Ok(true)
     }
 }

@@ -1,6 +1,7 @@
 //! The exchanges of a virtual host under their names.
 
 ghost use Rattle.std.specs.Prelude.{◌≡◌, [], ◌∷◌, ◌++◌, None, OnOk, OnErr, string_bytes};
+ghost use Rattle.std.specs.Option.{option_copied};
 ghost use Rattle.mini_broker.specs.Exchanges.{declared_shape, shape_of, predeclared_kind as kind_predeclared, predeclared_shape as shape_predeclared};
 
 use crate::client::ExchangeShape;
@@ -32,7 +33,9 @@ fn predeclared_kind(name: &str) -> Option<ExchangeKind>
         Some(ExchangeKind::Direct)
     } else if name == "amq.fanout" {
         Some(ExchangeKind::Fanout)
-    } else if name == "amq.headers" || name == "amq.match" {
+    } else if name == "amq.headers" {
+        Some(ExchangeKind::Headers)
+    } else if name == "amq.match" {
         Some(ExchangeKind::Headers)
     } else if name == "amq.topic" {
         Some(ExchangeKind::Topic)
@@ -64,11 +67,10 @@ impl Exchanges {
     }
 
     /// The exchange of that name that was declared.
-    fn declared(&self, name: &str) -> Option<ExchangeShape>
-        ensures { result ≡ declared_shape name.now self.now }
+    fn declared(&self, name: &str) -> Option<&ExchangeShape>
+        ensures { option_copied result ≡ declared_shape name.now self.now }
     {
-        let shape = self.table.get(name)?;
-        Some(*shape)
+        self.table.get(name)
     }
 
     /// The exchange of that name, other than the default one; None exactly where there is none.
@@ -76,7 +78,7 @@ impl Exchanges {
         ensures { result ≡ shape_of name.now self.now }
     {
         match self.declared(name) {
-            Some(shape) => Some(shape),
+            Some(shape) => Some(*shape),
             None => predeclared_shape(name),
         }
     }

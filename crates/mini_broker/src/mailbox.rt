@@ -3,7 +3,7 @@
 ghost use Rattle.std.specs.Prelude.{◌≡◌, ◌==◌, ◌<◌, [], ◌∷◌, ◌++◌, IfSome, IfNone, OnOk, OnErr, not, is_some, map, filter, count_by, length, vec_len, vec_capacity};
 ghost use Rattle.std.specs.Option.{option_copied, option_map};
 ghost use Rattle.queue_core.specs.Rows.{IsAbove, first_ready, is_ready, is_held_by, has, has_held, holder_of};
-ghost use Rattle.mini_broker.specs.Mail.{empty, entered, fresh, handed, given, left, released, released_from, purged, stored, as_seen, copy_of, first_copy};
+ghost use Rattle.mini_broker.specs.Mail.{empty, entered, fresh, handed, given, left, released, released_from, purged, stored, as_seen, copy_of, first_copy, swept, is_held_at as is_held_by_client};
 
 use crate::shared::Shared;
 use queue_core::{CopyNo, Holder, Queue};
@@ -19,6 +19,29 @@ pub struct CopyMessage {
     pub again: bool,
     /// What was published.
     pub message: Shared,
+}
+
+/// What is done to every queue.
+#[derive(Clone, Copy)]
+pub enum Sweep {
+    /// A flush stores what is there.
+    Store,
+    /// The client's connection ends.
+    Free(u32),
+    /// The copy leaves, if the client holds it.
+    Leave {
+        /// The client's number.
+        client: u32,
+        /// The copy's number.
+        number: CopyNo,
+    },
+    /// The copy is ready again, if the client holds it.
+    Release {
+        /// The client's number.
+        client: u32,
+        /// The copy's number.
+        number: CopyNo,
+    },
 }
 
 /// The copies of a queue.
@@ -134,6 +157,33 @@ impl Mailbox {
         ensures { self.new ≡ stored self.old }
     {
         self.queue.mark_stored();
+    }
+
+    /// Whether a consumer of the client holds the copy.
+    pub fn is_held_at(&self, client: u32, number: CopyNo) -> bool
+        ensures { result ≡ is_held_by_client client number self.now }
+    {
+        match self.queue.holder(number) {
+            Some(holder) => !holder.link && holder.number == client,
+            None => false,
+        }
+    }
+
+    /// Does what is done to every queue.
+    pub fn sweep(&mut self, sweep: Sweep)
+        ensures { self.new ≡ swept sweep self.old }
+    {
+        match sweep {
+            Sweep::Store => self.mark_stored(),
+            Sweep::Free(client) => self.release_client(client),
+            Sweep::Leave { client, number } if self.is_held_at(client, number) => {
+                self.leave(number);
+            }
+            Sweep::Release { client, number } if self.is_held_at(client, number) => {
+                self.release(number);
+            }
+            Sweep::Leave { .. } | Sweep::Release { .. } => {}
+        }
     }
 
     /// What `hand` would hand out now; None exactly where no copy is ready.

@@ -1,10 +1,13 @@
 //! The queues of a virtual host under their names.
 
-ghost use Rattle.std.specs.Prelude.{◌≡◌, [], ◌∷◌, ◌++◌, None, IfSome, IfNone, OnOk, OnErr, string_bytes};
+ghost use Rattle.std.specs.Prelude.{◌≡◌, [], ◌∷◌, ◌++◌, None, map, IfSome, IfNone, OnOk, OnErr, string_bytes};
+ghost use Rattle.std.specs.List.{list_any};
 ghost use Rattle.std.specs.Option.{option_copied};
-ghost use Rattle.mini_broker.specs.Mail.{entered, given, left, purged};
-ghost use Rattle.mini_broker.specs.Queues.{queue_of, changed, with_mail, ready_in, ready_count, AreAbove};
+ghost use Rattle.indexmap.specs.IndexMap.{values};
+ghost use Rattle.mini_broker.specs.Mail.{entered, given, left, purged, swept, is_held_at as is_held_by_client};
+ghost use Rattle.mini_broker.specs.Queues.{queue_of, changed, with_mail, ready_in, ready_count, AreAbove, all_changed, is_held_in};
 
+use crate::mailbox::Sweep;
 use crate::shared::Shared;
 use crate::standing::StandingQueue;
 use indexmap::IndexMap;
@@ -116,5 +119,41 @@ impl Queues {
             Some(place) => self.table[place].mail.purge(),
             None => 0,
         }
+    }
+
+    /// Whether a consumer of the client holds the copy in a queue.
+    pub fn is_held_at(&self, client: u32, number: CopyNo) -> bool
+        ensures { result ≡ is_held_in client number self.now }
+    {
+        is_held_among(&self.table, client, number)
+    }
+
+    /// Does what is done to every queue.
+    pub fn sweep(&mut self, sweep: Sweep)
+        ensures { self.new ≡ all_changed (with_mail (swept sweep)) self.old }
+    {
+        sweep_table(&mut self.table, sweep);
+    }
+}
+
+/// Whether a consumer of the client holds the copy in a queue.
+fn is_held_among(
+    table: &IndexMap<String, StandingQueue>,
+    client: u32,
+    number: CopyNo,
+) -> bool
+    ensures { result ≡ list_any (λ queue. is_held_by_client client number queue.mail) (values table.now) }
+{
+    table
+        .values()
+        .any(|queue| queue.mail.is_held_at(client, number))
+}
+
+/// Does what is done to every queue.
+fn sweep_table(table: &mut IndexMap<String, StandingQueue>, sweep: Sweep)
+    ensures { table.new.entries ≡ map (λ e. (e.0, with_mail (swept sweep) e.1)) table.old.entries }
+{
+    for place in 0..table.len() {
+        table[place].mail.sweep(sweep);
     }
 }
