@@ -2,3 +2,4 @@ mod MailLemmas
 mod QueueLemmas
 mod NameLemmas
 mod AnswerLemmas
+mod PublishLemmas

@@ -12,3 +12,4 @@ pub mod Bind
 pub mod Consume
 pub mod Deliver
 pub mod Settle
+pub mod Publish

@@ -1,5 +1,5 @@
 -- The queues of a virtual host under their names, in the order of making (AMQP 0-9-1, 3.1.1 "The Message Queue").
-use Rattle.std.specs.Prelude.{ℕ, Bool, if◌then◌else◌, List, [], ◌∷◌, Option, All, count_by, length, map}
+use Rattle.std.specs.Prelude.{ℕ, ◌<◌, Bool, if◌then◌else◌, List, [], ◌∷◌, Option, All, count_by, length, map}
 use Rattle.std.specs.List.{list_any}
 use Rattle.std.specs.Option.{option_and_then, option_map_or}
 use Rattle.std.specs.Map.{lookup}
@@ -29,9 +29,13 @@ all_changed change queues = map (λ q. (q.0, change q.1)) queues
 abbrev pub with_mail : (Mail → Mail) → StandingQueue → StandingQueue
 with_mail change queue = record queue { mail = change queue.mail }
 
--- a copy of this number would be the last of each queue
+-- a copy of this number would be the last of the queue, as copies are numbered in the order in which they enter
+abbrev pub IsLast : ℕ → StandingQueue → Type 0
+IsLast number queue = rows.IsAbove queue.mail.rows number × All (λ copy. copy.number < number) queue.mail.copies
+
+-- and of each queue
 abbrev pub AreAbove : ℕ → List Named → Type 0
-AreAbove number queues = All (λ q. rows.IsAbove q.1.mail.rows number) queues
+AreAbove number queues = All (λ q. IsLast number q.1) queues
 
 -- what the queue would hand out now (AMQP 0-9-1, basic.get)
 abbrev pub ready_in : List ℕ → List Named → Option ℕ

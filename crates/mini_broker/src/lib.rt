@@ -11,6 +11,7 @@ mod exchanges;
 mod fault;
 mod mailbox;
 mod names;
+mod publish;
 mod queues;
 mod settle;
 mod shared;
@@ -23,7 +24,11 @@ pub use deliver::Delivered;
 pub use exchanges::Exchanges;
 pub use fault::ClientFault;
 pub use mailbox::{CopyMessage, Mailbox, Sweep};
+pub use publish::Accepted;
 pub use queues::Queues;
 pub use shared::Shared;
 pub use standing::StandingQueue;
 pub use vhost::Vhost;
+
+#[cfg(test)]
+mod tests;

@@ -1,14 +1,13 @@
 use Rattle.std.proofs.Common.{sym, ap, subst}
-use Rattle.queue_core.specs.Rows.{IsAbove}
 use Rattle.mini_broker.specs.Mail.{entered}
-use Rattle.mini_broker.specs.Queues.{with_mail, AreAbove}
+use Rattle.mini_broker.specs.Queues.{with_mail, AreAbove, IsLast}
 use Rattle.mini_broker.proofs.QueueLemmas.{named, absent, changed_absent, written, rewritten, all_at, on_ok, on_err}
 use Rattle.mini_broker.proofs.queues.Queues.enter.Goals as goal
 
 pub enter-requires : goal.enter-requires
 enter-requires c =
     let above : AreAbove c.args.number (named c.self.inside.table.entries) = subst (AreAbove c.args.number) (sym c.self.view_is) c.requires in
-    all_at (λ queue. IsAbove queue.mail.rows c.args.number) c.self.inside.table.entries c.in-Some.place c.index_mut.result.now above c.index_mut.ensures.value
+    (all_at (IsLast c.args.number) c.self.inside.table.entries c.in-Some.place c.index_mut.result.now above c.index_mut.ensures.value).0
 
 pub returns-in-Some-clause-ok : goal.returns-in-Some-clause-ok
 returns-in-Some-clause-ok c =
