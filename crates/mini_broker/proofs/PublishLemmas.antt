@@ -41,9 +41,9 @@ undone name n m [] above = refl
 undone name n m (q ∷ queues) above =
     elim (bytes_eq name q.0) as (λ b. bytes_eq name q.0 ≡ b → changed name (with_mail (left n)) (cond b ((q.0, with_mail (entered n m) q.1) ∷ queues) (q ∷ changed name (with_mail (entered n m)) queues)) ≡ q ∷ queues) [
       | true ↦ (λ on. ap (λ b. cond b ((q.0, with_mail (left n) (with_mail (entered n m) q.1)) ∷ queues) ((q.0, with_mail (entered n m) q.1) ∷ changed name (with_mail (left n)) queues)) on
-        ∙ ap (λ x. (q.0, x) ∷ queues) (undone_at n m q.1 (All-head (λ q. IsLast n q.1) q queues above)))
+          ∙ ap (λ x. (q.0, x) ∷ queues) (undone_at n m q.1 (All-head (λ q. IsLast n q.1) q queues above)))
       | false ↦ (λ off. ap (λ b. cond b ((q.0, with_mail (left n) q.1) ∷ changed name (with_mail (entered n m)) queues) (q ∷ changed name (with_mail (left n)) (changed name (with_mail (entered n m)) queues))) off
-        ∙ ap (λ rest. q ∷ rest) (undone name n m queues (All-tail (λ q. IsLast n q.1) q queues above)))
+          ∙ ap (λ rest. q ∷ rest) (undone name n m queues (All-tail (λ q. IsLast n q.1) q queues above)))
     ] refl
 
 -- the next number is above what is there

@@ -44,8 +44,8 @@ changed_first {Z} name change (e ∷ es) v w at is =
     elim (is_key name e.0) as (λ b. slice_get (values_of (e ∷ es)) (cond (not b) (1 + position_or_len (is_key name) (keys_of es)) 0) ≡ Some v → named (set_value_at (e ∷ es) (cond (not b) (1 + position_or_len (is_key name) (keys_of es)) 0) w) ≡ cond b ((string_bytes e.0, change e.1) ∷ named es) ((string_bytes e.0, e.1) ∷ changed name change (named es))) [
       | true ↦ (λ at. ap (λ x. (string_bytes e.0, x) ∷ named es) (is ∙ ap change (sym (same_some at))))
       | false ↦ (λ at.
-        let next : 1 + k ≡ suc k = omega arith in
-        subst (λ j. named (set_value_at (e ∷ es) j w) ≡ (string_bytes e.0, e.1) ∷ changed name change (named es)) (sym next) (ap (λ rest. (string_bytes e.0, e.1) ∷ rest) (changed_first name change es v w (subst (λ j. slice_get (values_of (e ∷ es)) j ≡ Some v) next at) is)))
+          let next : 1 + k ≡ suc k = omega arith in
+          subst (λ j. named (set_value_at (e ∷ es) j w) ≡ (string_bytes e.0, e.1) ∷ changed name change (named es)) (sym next) (ap (λ rest. (string_bytes e.0, e.1) ∷ rest) (changed_first name change es v w (subst (λ j. slice_get (values_of (e ∷ es)) j ≡ Some v) next at) is)))
     ] at
 
 pub changed_at : {Z : Type 0} (name : List ℕ) (change : StandingQueue → StandingQueue) (es : Entries Z) (i : ℕ) (v w : StandingQueue) → Some i ≡ position (is_key name) (keys_of es) → slice_get (values_of es) i ≡ Some v → w ≡ change v → named (set_value_at es i w) ≡ changed name change (named es)
@@ -110,6 +110,7 @@ swept_more {Z} change [] now i v w so at is = absurd (true≢false (sym (ap is_s
     none : (j : ℕ) → map (λ (e : String Z × StandingQueue). (e.0, change e.1)) (take j (list [])) ++ drop j (list []) ≡ list []
     none zero = refl
     none (suc j) = refl
+
     gone : (j : ℕ) → is_some (slice_get (values_of now) j) ≡ false
     gone j = ap (λ es. is_some (slice_get (values_of es) j)) (so ∙ none i)
 swept_more {Z} change (e ∷ was) now zero v w so at is =

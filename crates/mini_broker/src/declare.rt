@@ -230,7 +230,13 @@ impl Vhost {
         ensures err { OnErr result (self.new ≡ self.old) }
         ensures memory { IfErr result (λ e. e ≡ ClientFault.Memory) }
     {
-        stand_exchange(self.alloc, &mut self.router, &mut self.exchanges, name, shape)?;
+        stand_exchange(
+            self.alloc,
+            &mut self.router,
+            &mut self.exchanges,
+            name,
+            shape,
+        )?;
         Ok(())
     }
 

@@ -55,8 +55,7 @@ fn is_busy(queues: &Queues, consumer: &Consumer) -> bool
     ensures { result ≡ is_consumer_busy consumer.now queues.now }
 {
     0 < consumer.prefetch
-        && consumer.prefetch as u64
-            <= held_count(queues, consumer.queue.as_str(), consumer.holder)
+        && consumer.prefetch as u64 <= held_count(queues, consumer.queue.as_str(), consumer.holder)
 }
 
 /// What a hand-out from the queue would give now.
@@ -64,11 +63,7 @@ fn is_busy(queues: &Queues, consumer: &Consumer) -> bool
 /// # Errors
 ///
 /// For want of memory, where a copy is ready.
-fn first_offer(
-    alloc: Global,
-    queues: &Queues,
-    name: &str,
-) -> Result<Option<Delivered>, AllocError>
+fn first_offer(alloc: Global, queues: &Queues, name: &str) -> Result<Option<Delivered>, AllocError>
     ensures offer { IfOk result (λ offer. offer ≡ offer_of name.now queues.now) }
     ensures ready { IfOk result (λ offer. option_map (λ delivered. delivered.copy) offer ≡ ready_in name.now queues.now) }
     ensures err { OnErr result (IsSome (offer_of name.now queues.now)) }
@@ -228,12 +223,7 @@ impl Vhost {
     ///
     /// 403 for a queue that belongs to links, 404 for one that isn't there, 405 for one that another connection has to
     /// itself, `Empty` where no copy is ready, or for want of memory; the virtual host is then as it was.
-    pub fn get(
-        &mut self,
-        who: Client,
-        name: &str,
-        no_ack: bool,
-    ) -> Result<Delivered, ClientFault>
+    pub fn get(&mut self, who: Client, name: &str, no_ack: bool) -> Result<Delivered, ClientFault>
         ensures answer { IsAnswer result (get_answer who name.now self.old) }
         ensures given { IfOk result (λ delivered. self.new ≡ with_got who name.now delivered.copy no_ack self.old) }
         ensures err { OnErr result (self.new ≡ self.old) }

@@ -70,12 +70,7 @@ impl Queues {
     /// # Errors
     ///
     /// For want of memory; the queues are then as they were.
-    pub fn enter(
-        &mut self,
-        name: &str,
-        number: CopyNo,
-        message: Shared,
-    ) -> Result<(), AllocError>
+    pub fn enter(&mut self, name: &str, number: CopyNo, message: Shared) -> Result<(), AllocError>
         requires { AreAbove number self.old }
         ensures ok { OnOk result (self.new ≡ changed name.now (with_mail (entered number message)) self.old) }
         ensures err { OnErr result (self.new ≡ self.old) }
@@ -137,11 +132,7 @@ impl Queues {
 }
 
 /// Whether a consumer of the client holds the copy in a queue.
-fn is_held_among(
-    table: &IndexMap<String, StandingQueue>,
-    client: u32,
-    number: CopyNo,
-) -> bool
+fn is_held_among(table: &IndexMap<String, StandingQueue>, client: u32, number: CopyNo) -> bool
     ensures { result ≡ list_any (λ queue. is_held_by_client client number queue.mail) (values table.now) }
 {
     table

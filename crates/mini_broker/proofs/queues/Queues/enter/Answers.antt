@@ -12,12 +12,12 @@ enter-requires c =
 pub returns-in-Some-clause-ok : goal.returns-in-Some-clause-ok
 returns-in-Some-clause-ok c =
     on_ok c.enter.result (λ same.
-      written c.args.name.now (with_mail (entered c.args.number c.args.message)) c.self.inside.table.entries _ c.in-Some.place c.index_mut.result.now (record c.index_mut.result.now { mail = c.enter.new.self }) c.self.view_is c.in-Some.ensures.index c.index_mut.ensures.value (ap (λ m. record c.index_mut.result.now { mail = m }) same)) c.enter.ensures.ok
+    written c.args.name.now (with_mail (entered c.args.number c.args.message)) c.self.inside.table.entries _ c.in-Some.place c.index_mut.result.now (record c.index_mut.result.now { mail = c.enter.new.self }) c.self.view_is c.in-Some.ensures.index c.index_mut.ensures.value (ap (λ m. record c.index_mut.result.now { mail = m }) same)) c.enter.ensures.ok
 
 pub returns-in-Some-clause-err : goal.returns-in-Some-clause-err
 returns-in-Some-clause-err c =
     on_err c.enter.result (λ same.
-      rewritten c.self.inside.table.entries _ c.in-Some.place c.index_mut.result.now (record c.index_mut.result.now { mail = c.enter.new.self }) c.self.view_is c.index_mut.ensures.value (ap (λ m. record c.index_mut.result.now { mail = m }) same)) c.enter.ensures.err
+    rewritten c.self.inside.table.entries _ c.in-Some.place c.index_mut.result.now (record c.index_mut.result.now { mail = c.enter.new.self }) c.self.view_is c.index_mut.ensures.value (ap (λ m. record c.index_mut.result.now { mail = m }) same)) c.enter.ensures.err
 
 pub returns-in-None-clause-ok : goal.returns-in-None-clause-ok
 returns-in-None-clause-ok c = sym (changed_absent c.args.name.now (with_mail (entered c.args.number c.args.message)) c.args.self.now (absent c.args.name.now c.self.inside.table.entries _ c.self.view_is c.in-None.ensures.found))

@@ -14,12 +14,12 @@ returns-in-Some-clause-first c =
 pub returns-in-Some-clause-given : goal.returns-in-Some-clause-given
 returns-in-Some-clause-given c =
     if_some c.hand_out.result (λ number same.
-      written c.args.name.now (with_mail (given number c.args.holder c.args.no_ack)) c.self.inside.table.entries _ c.in-Some.place c.index_mut.result.now (record c.index_mut.result.now { mail = c.hand_out.new.self }) c.self.view_is c.in-Some.ensures.index c.index_mut.ensures.value (ap (λ m. record c.index_mut.result.now { mail = m }) same)) c.hand_out.ensures.given
+    written c.args.name.now (with_mail (given number c.args.holder c.args.no_ack)) c.self.inside.table.entries _ c.in-Some.place c.index_mut.result.now (record c.index_mut.result.now { mail = c.hand_out.new.self }) c.self.view_is c.in-Some.ensures.index c.index_mut.ensures.value (ap (λ m. record c.index_mut.result.now { mail = m }) same)) c.hand_out.ensures.given
 
 pub returns-in-Some-clause-none : goal.returns-in-Some-clause-none
 returns-in-Some-clause-none c =
     if_none c.hand_out.result (λ same.
-      rewritten c.self.inside.table.entries _ c.in-Some.place c.index_mut.result.now (record c.index_mut.result.now { mail = c.hand_out.new.self }) c.self.view_is c.index_mut.ensures.value (ap (λ m. record c.index_mut.result.now { mail = m }) same)) c.hand_out.ensures.none
+    rewritten c.self.inside.table.entries _ c.in-Some.place c.index_mut.result.now (record c.index_mut.result.now { mail = c.hand_out.new.self }) c.self.view_is c.index_mut.ensures.value (ap (λ m. record c.index_mut.result.now { mail = m }) same)) c.hand_out.ensures.none
 
 pub returns-in-None-clause-first : goal.returns-in-None-clause-first
 returns-in-None-clause-first c = sym (ap (option_and_then (λ (queue : StandingQueue). first_ready queue.mail.rows)) (absent c.args.name.now c.self.inside.table.entries _ c.self.view_is c.in-None.ensures.found))
