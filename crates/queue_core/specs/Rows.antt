@@ -77,6 +77,24 @@ freed holder hold = if is_hold_of holder hold then Ready else hold
 abbrev pub released_all : Holder → List Row → List Row
 released_all holder rows = map (λ (row : Row). record row { hold = freed holder row.hold }) rows
 
+-- The holder is a consumer of this client (RabbitMQ, Consumers: Basics).
+abbrev pub is_of_client : ℕ → Holder → Bool
+is_of_client client holder = not holder.link && (holder.number == client)
+
+-- The state of a copy once the client's consumers hold nothing any more (RabbitMQ, Confirms: Automatic Requeueing of Deliveries).
+abbrev pub freed_of : ℕ → Hold → Hold
+freed_of client Ready = Ready
+freed_of client (Held holder) = if is_of_client client holder then Ready else Held holder
+
+-- What the client's consumers held is ready again when its channel or connection closes
+-- (RabbitMQ, Confirms: Automatic Requeueing of Deliveries).
+abbrev pub released_client : ℕ → List Row → List Row
+released_client client rows = map (λ (row : Row). record row { hold = freed_of client row.hold }) rows
+
+-- The copy is unacknowledged at this holder (RabbitMQ, Consumer Prefetch).
+abbrev pub is_held_by : Holder → Row → Bool
+is_held_by holder row = is_hold_of holder row.hold
+
 -- The queue without this copy (AMQP 0-9-1, basic.ack).
 abbrev pub without : ℕ → List Row → List Row
 without copy rows = filter (λ row. not (row.copy == copy)) rows

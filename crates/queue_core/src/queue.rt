@@ -1,5 +1,5 @@
 ghost use Rattle.std.specs.Prelude.{◌≡◌, ◌==◌, ◌≤◌, ◌<◌, ◌↔◌, [], ◌∷◌, ◌++◌, filter, map, find, count_by, length, IsNone, IfSome, IfNone, OnOk, OnErr};
-ghost use Rattle.queue_core.specs.Rows.{Ascends, IsAbove, IsLeastReady, with_hold, is_ready, is_held, entered, first_ready, handed, released, released_all, without, all_stored, has, has_held, holder_of, has_stored, copy_at};
+ghost use Rattle.queue_core.specs.Rows.{Ascends, IsAbove, IsLeastReady, with_hold, is_ready, is_held, entered, first_ready, handed, released, released_all, released_client, is_held_by, without, all_stored, has, has_held, holder_of, has_stored, copy_at};
 
 use crate::rows::{CopyNo, Hold, Holder, Row};
 use std::alloc::{AllocError, Global};
@@ -93,6 +93,13 @@ impl Queue {
         free_all(&mut self.rows, holder);
     }
 
+    /// Makes each copy ready again that a consumer of the client holds, at its place.
+    pub fn release_client(&mut self, client: u32)
+        ensures { self.new ≡ released_client client self.old }
+    {
+        free_client(&mut self.rows, client);
+    }
+
     /// Removes each ready copy, and gives how many there were.
     pub fn purge(&mut self) -> u64
         ensures purged { result ≡ count_by is_ready self.old }
@@ -118,6 +125,16 @@ impl Queue {
         self.rows
             .iter()
             .filter(|row| row.hold == Hold::Ready)
+            .count() as u64
+    }
+
+    /// The number of copies that the holder holds.
+    pub fn held_by(&self, holder: Holder) -> u64
+        ensures { result ≡ count_by (is_held_by holder) self.now }
+    {
+        self.rows
+            .iter()
+            .filter(|row| row.hold == Hold::Held(holder))
             .count() as u64
     }
 
@@ -190,6 +207,15 @@ fn free_all(rows: &mut Vec<Row>, holder: Holder)
     }
 }
 
+/// Frees what the consumers of a client hold.
+fn free_client(rows: &mut Vec<Row>, client: u32)
+    ensures { rows.new.items ≡ released_client client rows.old.items }
+{
+    for row in rows.iter_mut() {
+        row.hold = row.hold.freed_of(client);
+    }
+}
+
 /// Marks each row as stored.
 fn store_all(rows: &mut Vec<Row>)
     ensures { rows.new.items ≡ all_stored rows.old.items }
@@ -253,6 +279,23 @@ mod tests {
         queue.release_all(SESSION);
         assert_eq!(rt; queue.ready(), 1);
         assert_eq!(rt; queue.hand(SESSION), Some(1));
+        Ok(())
+    }
+
+    /// The copy of a client whose connection ends is ready again.
+    #[test]
+    fn close_of_a_client(rt: HostRuntime) -> Result<(), Fail> {
+        let consumer = Holder {
+            link: false,
+            number: 3,
+            part: 1,
+        };
+        let mut queue = Queue::new(rt.alloc());
+        queue.enter(1)?;
+        assert_eq!(rt; queue.hand(consumer), Some(1));
+        assert_eq!(rt; queue.held_by(consumer), 1);
+        queue.release_client(3);
+        assert_eq!(rt; queue.held_by(consumer), 0);
         Ok(())
     }
 

@@ -1,5 +1,5 @@
 ghost use Rattle.std.specs.Prelude.{◌≡◌};
-ghost use Rattle.queue_core.specs.Rows.{holder_in, freed};
+ghost use Rattle.queue_core.specs.Rows.{holder_in, freed, freed_of};
 
 /// The number of a copy: copies are numbered from 1 over all queues, in the order in which they enter.
 pub type CopyNo = u64;
@@ -43,6 +43,16 @@ impl Hold {
             Hold::Ready
         } else {
             self
+        }
+    }
+
+    /// The hold once the client's consumers hold nothing any more.
+    pub fn freed_of(self, client: u32) -> Hold
+        ensures { result ≡ freed_of client self }
+    {
+        match self {
+            Hold::Held(holder) if !holder.link && holder.number == client => Hold::Ready,
+            Hold::Ready | Hold::Held(_) => self,
         }
     }
 }

@@ -1,0 +1,5 @@
+mod MailLemmas
+mod QueueLemmas
+mod NameLemmas
+mod AnswerLemmas
+mod PublishLemmas

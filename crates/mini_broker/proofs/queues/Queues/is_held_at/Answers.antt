@@ -1,0 +1,10 @@
+use Rattle.std.proofs.Common.{ap, ◌∙◌}
+use Rattle.mini_broker.specs.declared.standing.StandingQueue.{StandingQueue}
+use Rattle.mini_broker.specs.Mail.{is_held_at}
+use Rattle.mini_broker.specs.Queues.{is_held_in}
+use Rattle.mini_broker.proofs.QueueLemmas.{any_named}
+use Rattle.mini_broker.proofs.queues.Queues.is_held_at.Goals as goal
+
+pub returns : goal.returns
+returns c =
+    c.is_held_among.ensures ∙ any_named (λ (queue : StandingQueue). is_held_at c.args.client c.args.number queue.mail) c.self.inside.table.entries ∙ ap (is_held_in c.args.client c.args.number) c.self.view_is

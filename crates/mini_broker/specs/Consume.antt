@@ -1,0 +1,58 @@
+-- Clients begin and end to consume from a queue (AMQP 0-9-1, basic.consume, basic.cancel).
+use Rattle.std.specs.Prelude.{ℕ, ◌+◌, List, ◌++◌, ◌∷◌, [], Bool, false, not, if◌then◌else◌, Option, Some, None, is_some, unwrap_or, Result, Ok, Err, length, position, find, filter}
+use Rattle.std.specs.List.{list_any}
+use Rattle.std.specs.Option.{option_map_or}
+use Rattle.queue_core.specs.declared.rows.Holder.{Holder}
+use Rattle.route_core.specs.Walks.{is_reserved}
+use Rattle.mini_broker.specs.declared.client.Client.{Client}
+use Rattle.mini_broker.specs.declared.consumer.Consumer.{Consumer}
+use Rattle.mini_broker.specs.declared.fault.ClientFault.{ClientFault}
+use Rattle.mini_broker.specs.declared.fault.ClientFault.TheVariants.{Refused}
+use Rattle.mini_broker.specs.declared.standing.StandingQueue.{StandingQueue}
+use Rattle.mini_broker.specs.Consumers.{is_client, is_consumer}
+use Rattle.mini_broker.specs.Declare.{is_locked}
+use Rattle.mini_broker.specs.Queues.{queue_of}
+use Rattle.mini_broker.specs.State.{VhostState}
+
+-- NOT_FOUND (404) for a queue that isn't there, RESOURCE_LOCKED (405) for another's (AMQP 0-9-1, 1.2)
+abbrev pub refusal_at : Client → Option StandingQueue → Option ClientFault
+refusal_at who None = Some (Refused 404)
+refusal_at who (Some queue) = if is_locked who queue then Some (Refused 405) else None
+
+-- before these, ACCESS_REFUSED (403) for a queue that belongs to links
+abbrev pub queue_refusal : Client → List ℕ → VhostState → Option ClientFault
+queue_refusal who name v = if is_reserved name then Some (Refused 403) else refusal_at who (queue_of name v.queues)
+
+abbrev pub consumer_of : Client → List ℕ → VhostState → Option Consumer
+consumer_of who tag v = find (is_consumer who tag) v.consumers
+
+-- NOT_ALLOWED (530) for a tag in use (AMQP 0-9-1, basic.consume: consumer-tag)
+abbrev pub or_tag_in_use : Option ClientFault → Bool → Option ClientFault
+or_tag_in_use None used = if used then Some (Refused 530) else None
+or_tag_in_use (Some fault) used = Some fault
+
+abbrev pub consume_refusal : Client → List ℕ → List ℕ → VhostState → Option ClientFault
+consume_refusal who name tag v = or_tag_in_use (queue_refusal who name v) (is_some (consumer_of who tag v))
+
+-- a client is numbered when it first consumes or gets
+abbrev pub client_number : Client → List Client → ℕ
+client_number who clients = unwrap_or (position (is_client who) clients) (length clients)
+
+abbrev pub registered : Client → List Client → List Client
+registered who clients = if list_any (is_client who) clients then clients else clients ++ who ∷ []
+
+-- a consumer's copies are told from those of all other consumers, also of one that had its tag before
+abbrev pub holder_for : Client → ℕ → VhostState → Holder
+holder_for who part v = record { link = false; number = client_number who v.clients; part = part }
+
+abbrev pub new_consumer : Client → List ℕ → List ℕ → Bool → ℕ → VhostState → Consumer
+new_consumer who name tag no_ack prefetch v =
+    record { client = who; tag = tag; queue = name; no_ack = no_ack; prefetch = prefetch; holder = holder_for who (v.begun + 1) v }
+
+-- the consumer begins (AMQP 0-9-1, basic.consume)
+abbrev pub with_consumer : Consumer → VhostState → VhostState
+with_consumer consumer v = record v { clients = registered consumer.client v.clients; consumers = v.consumers ++ consumer ∷ []; begun = v.begun + 1 }
+
+-- the consumer ends; what it holds stays held (AMQP 0-9-1, basic.cancel)
+abbrev pub without_consumer : Client → List ℕ → VhostState → VhostState
+without_consumer who tag v = record v { consumers = filter (λ consumer. not (is_consumer who tag consumer)) v.consumers }

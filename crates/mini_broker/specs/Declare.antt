@@ -1,0 +1,86 @@
+-- A client declares a queue or an exchange (AMQP 0-9-1, queue.declare, exchange.declare).
+use Rattle.std.specs.Prelude.{ℕ, ◌+◌, ◌==◌, List, [], ◌∷◌, ◌++◌, Bool, true, false, ◌&&◌, not, if◌then◌else◌, Option, Some, None, is_some, Result, Ok, Err}
+use Rattle.amqp_props.specs.declared.link.QueueOptions.{QueueOptions}
+use Rattle.amqp_props.specs.declared.link.ExchangeKind.{ExchangeKind}
+use Rattle.amqp_props.specs.declared.link.ExchangeKind.TheVariants.{Direct, Fanout, Headers, Topic}
+use Rattle.route_core.specs.declared.object.Node.TheVariants as nodes
+use Rattle.route_core.specs.Routing.{with_object}
+use Rattle.mini_broker.specs.declared.client.Client.{Client}
+use Rattle.mini_broker.specs.declared.client.ExchangeShape.{ExchangeShape}
+use Rattle.mini_broker.specs.declared.fault.ClientFault.{ClientFault}
+use Rattle.mini_broker.specs.declared.fault.ClientFault.TheVariants.{Refused}
+use Rattle.mini_broker.specs.declared.standing.StandingQueue.{StandingQueue}
+use Rattle.mini_broker.specs.Mail.{empty}
+use Rattle.mini_broker.specs.Names.{is_refused_queue, is_refused_exchange}
+use Rattle.mini_broker.specs.Queues.{queue_of}
+use Rattle.mini_broker.specs.Exchanges.{shape_of}
+use Rattle.mini_broker.specs.State.{VhostState}
+
+-- another connection has the queue to itself (AMQP 0-9-1, queue.declare: exclusive)
+abbrev pub is_other : Client → Option ℕ → Bool
+is_other who None = false
+is_other who (Some connection) = not (connection == who.connection)
+
+abbrev pub is_locked : Client → StandingQueue → Bool
+is_locked who queue = is_other who queue.owner
+
+-- both flags are set, or neither
+abbrev pub same_flag : Bool → Bool → Bool
+same_flag true b = b
+same_flag false b = not b
+
+abbrev pub same_options : QueueOptions → QueueOptions → Bool
+same_options a b = same_flag a.durable b.durable && same_flag a.exclusive b.exclusive && same_flag a.auto_delete b.auto_delete
+
+-- RESOURCE_LOCKED (405) for another's queue, PRECONDITION_FAILED (406) where it stands with other options (RabbitMQ, Queues: Property Equivalence)
+abbrev pub declared_again : Client → QueueOptions → Option StandingQueue → Result Bool ClientFault
+declared_again who options None = Ok true
+declared_again who options (Some queue) =
+    if is_locked who queue then Err (Refused 405) else if same_options queue.options options then Ok false else Err (Refused 406)
+
+-- ACCESS_REFUSED (403) for a name that clients can't use; whether it is made (AMQP 0-9-1, queue.declare)
+unfoldable pub declare_answer : Client → List ℕ → QueueOptions → VhostState → Result Bool ClientFault
+declare_answer who name options v =
+    if is_refused_queue name (is_some (queue_of name v.queues)) then Err (Refused 403) else declared_again who options (queue_of name v.queues)
+
+-- the connection that has the queue to itself (AMQP 0-9-1, queue.declare: exclusive)
+abbrev pub owner_of : Client → QueueOptions → Option ℕ
+owner_of who options = if options.exclusive then Some who.connection else None
+
+abbrev pub made_queue : ℕ → QueueOptions → Option ℕ → StandingQueue
+made_queue number options owner = record { number = number; options = options; owner = owner; mail = empty }
+
+-- the queue stands as the last
+abbrev pub with_queue : List ℕ → QueueOptions → Option ℕ → VhostState → VhostState
+with_queue name options owner v = record v {
+  routing = with_object name (nodes.Queue v.made) v.routing;
+  queues = v.queues ++ (name, made_queue v.made options owner) ∷ [];
+  made = v.made + 1;
+}
+
+abbrev pub same_kind : ExchangeKind → ExchangeKind → Bool
+same_kind Direct Direct = true
+same_kind Fanout Fanout = true
+same_kind Headers Headers = true
+same_kind Topic Topic = true
+same_kind _ _ = false
+
+abbrev pub same_shape : ExchangeShape → ExchangeShape → Bool
+same_shape a b = same_kind a.kind b.kind && same_flag a.durable b.durable && same_flag a.internal b.internal
+
+-- PRECONDITION_FAILED (406) where it stands as another type or with other options (RabbitMQ, Exchanges)
+abbrev pub declared_exchange_again : ExchangeShape → Option ExchangeShape → Result Bool ClientFault
+declared_exchange_again shape None = Ok true
+declared_exchange_again shape (Some was) = if same_shape was shape then Ok false else Err (Refused 406)
+
+-- ACCESS_REFUSED (403) for a name that clients can't use; whether it is made (AMQP 0-9-1, exchange.declare)
+unfoldable pub declare_exchange_answer : List ℕ → ExchangeShape → VhostState → Result Bool ClientFault
+declare_exchange_answer name shape v =
+    if is_refused_exchange name (is_some (shape_of name v.exchanges)) then Err (Refused 403) else declared_exchange_again shape (shape_of name v.exchanges)
+
+-- the exchange stands as the last
+abbrev pub with_exchange : List ℕ → ExchangeShape → VhostState → VhostState
+with_exchange name shape v = record v {
+  routing = with_object name (nodes.Exchange shape.kind) v.routing;
+  exchanges = v.exchanges ++ (name, shape) ∷ [];
+}

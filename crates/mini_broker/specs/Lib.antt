@@ -1,0 +1,15 @@
+pub mod Answers
+pub mod Consumers
+pub mod Declare
+pub mod Exchanges
+pub mod Inside
+pub mod Mail
+pub mod Names
+pub mod Queues
+pub mod State
+pub mod Vhosts
+pub mod Bind
+pub mod Consume
+pub mod Deliver
+pub mod Settle
+pub mod Publish

@@ -1,0 +1,209 @@
+//! Clients begin and end to consume.
+
+ghost use Rattle.std.specs.Prelude.{◌≡◌, ◌≢◌, ◌+◌, ◌<◌, ◌++◌, ◌∷◌, [], not, is_some, None, Some, Ok, Err, IfOk, IfErr, OnOk, OnErr, filter, vec_len, vec_capacity};
+ghost use Rattle.std.specs.List.{list_any};
+ghost use Rattle.mini_broker.specs.Answers.{IsAnswer};
+ghost use Rattle.mini_broker.specs.Consumers.{is_client, is_consumer as is_this_consumer};
+ghost use Rattle.mini_broker.specs.Bind.{unless};
+ghost use Rattle.mini_broker.specs.Consume.{refusal_at as refusal_of_queue, queue_refusal as refusal_by_queue, consumer_of, consume_refusal as refusal_to_consume, client_number as number_of_client, registered, holder_for, new_consumer as consumer_by, with_consumer, without_consumer};
+
+use crate::client::Client;
+use crate::consumer::{Consumer, client_place, find_consumer, is_consumer};
+use crate::declare::is_locked;
+use crate::fault::ClientFault;
+use crate::names::is_reserved;
+use crate::vhost::Vhost;
+use amqp_props::Text;
+use queue_core::Holder;
+use std::alloc::AllocError;
+
+/// The number of the client, or the number that it would get.
+pub(crate) fn client_number(clients: &[Client], who: Client) -> Result<u32, ClientFault>
+    ensures number { IfOk result (λ number. number ≡ number_of_client who clients.now) }
+    ensures memory { IfErr result (λ e. e ≡ ClientFault.Memory) }
+{
+    let place = match client_place(clients, who) {
+        Some(place) => place,
+        None => clients.len(),
+    };
+    match u32::try_from(place) {
+        Ok(number) => Ok(number),
+        Err(_) => Err(ClientFault::Memory),
+    }
+}
+
+/// Whether the client has a number.
+fn is_registered(clients: &[Client], who: Client) -> bool
+    ensures { result ≡ list_any (is_client who) clients.now }
+{
+    clients.iter().any(|client| *client == who)
+}
+
+/// Numbers the client, unless it has a number.
+///
+/// # Errors
+///
+/// For want of memory; the clients are then as they were.
+pub(crate) fn register(clients: &mut Vec<Client>, who: Client) -> Result<(), AllocError>
+    ensures ok { OnOk result (clients.new.items ≡ registered who clients.old.items) }
+    ensures err { OnErr result (clients.new.items ≡ clients.old.items) }
+{
+    if is_registered(clients, who) {
+        return Ok(());
+    }
+    clients.push(who)?;
+    Ok(())
+}
+
+/// Adds a consumer, for which there is room.
+fn push_consumer(consumers: &mut Vec<Consumer>, consumer: Consumer)
+    requires { vec_len consumers.old < vec_capacity consumers.old }
+    ensures { consumers.new.items ≡ consumers.old.items ++ consumer ∷ [] }
+{
+    match consumers.push(consumer) {
+        Ok(()) => {}
+        Err(_) => unreachable!(),
+    }
+}
+
+/// Adds a consumer, and numbers its client.
+///
+/// # Errors
+///
+/// For want of memory; all is then as it was.
+fn add_consumer(
+    clients: &mut Vec<Client>,
+    consumers: &mut Vec<Consumer>,
+    consumer: Consumer,
+) -> Result<(), AllocError>
+    ensures clients { OnOk result (clients.new.items ≡ registered consumer.client clients.old.items) }
+    ensures consumers { OnOk result (consumers.new.items ≡ consumers.old.items ++ consumer ∷ []) }
+    ensures same_clients { OnErr result (clients.new.items ≡ clients.old.items) }
+    ensures same_consumers { OnErr result (consumers.new.items ≡ consumers.old.items) }
+{
+    consumers.reserve(1)?;
+    register(clients, consumer.client)?;
+    push_consumer(consumers, consumer);
+    Ok(())
+}
+
+/// Ends a consumer.
+fn remove_consumer(consumers: &mut Vec<Consumer>, who: Client, tag: &str)
+    ensures { consumers.new.items ≡ filter (λ consumer. not (is_this_consumer who tag.now consumer)) consumers.old.items }
+{
+    consumers.retain(|consumer| !is_consumer(consumer, who, tag));
+}
+
+impl Vhost {
+    /// Why a client is refused a queue, if it is.
+    pub(crate) fn queue_refusal(&self, who: Client, name: &str) -> Option<ClientFault>
+        ensures refusal { result ≡ refusal_by_queue who name.now self.now }
+        ensures refused { result ≢ Some ClientFault.Memory }
+    {
+        if is_reserved(name) {
+            return Some(ClientFault::Refused(403));
+        }
+        match self.queues.find(name) {
+            None => Some(ClientFault::Refused(404)),
+            Some(queue) if is_locked(who, queue) => Some(ClientFault::Refused(405)),
+            Some(_) => None,
+        }
+    }
+
+    /// Why a client is refused a consumer, if it is.
+    fn consume_refusal(&self, who: Client, name: &str, tag: &str) -> Option<ClientFault>
+        ensures refusal { result ≡ refusal_to_consume who name.now tag.now self.now }
+        ensures refused { result ≢ Some ClientFault.Memory }
+    {
+        if let Some(fault) = self.queue_refusal(who, name) {
+            return Some(fault);
+        }
+        if find_consumer(&self.consumers, who, tag).is_some() {
+            return Some(ClientFault::Refused(530));
+        }
+        None
+    }
+
+    /// The consumer that would begin.
+    fn new_consumer(
+        &self,
+        who: Client,
+        name: &str,
+        tag: &str,
+        no_ack: bool,
+        prefetch: u16,
+    ) -> Result<Consumer, ClientFault>
+        ensures ok { IfOk result (λ consumer. consumer ≡ consumer_by who name.now tag.now no_ack prefetch self.now) }
+        ensures fits { OnOk result (self.now.begun + 1 < 4294967296) }
+        ensures memory { IfErr result (λ e. e ≡ ClientFault.Memory) }
+    {
+        if self.begun == u32::MAX {
+            return Err(ClientFault::Memory);
+        }
+        let number = client_number(&self.clients, who)?;
+        let holder = Holder {
+            link: false,
+            number,
+            part: self.begun + 1,
+        };
+        Ok(Consumer {
+            client: who,
+            tag: Text::from_str(self.alloc, tag)?,
+            queue: Text::from_str(self.alloc, name)?,
+            no_ack,
+            prefetch,
+            holder,
+        })
+    }
+
+    /// Lets a consumer begin.
+    ///
+    /// # Errors
+    ///
+    /// For want of memory; the virtual host is then as it was.
+    fn begin(&mut self, consumer: Consumer) -> Result<(), ClientFault>
+        requires { self.old.begun + 1 < 4294967296 }
+        ensures ok { OnOk result (self.new ≡ with_consumer consumer self.old) }
+        ensures err { OnErr result (self.new ≡ self.old) }
+        ensures memory { IfErr result (λ e. e ≡ ClientFault.Memory) }
+    {
+        add_consumer(&mut self.clients, &mut self.consumers, consumer)?;
+        self.begun += 1;
+        Ok(())
+    }
+
+    /// Lets a client consume from a queue under a tag, and hold so many copies unacknowledged; 0 is no limit.
+    ///
+    /// # Errors
+    ///
+    /// 403 for a queue that belongs to links, 404 for one that isn't there, 405 for one that another connection has to
+    /// itself, 530 for a tag that the client uses already, or for want of memory; the virtual host is then as it was.
+    pub fn consume(
+        &mut self,
+        who: Client,
+        name: &str,
+        tag: &str,
+        no_ack: bool,
+        prefetch: u16,
+    ) -> Result<(), ClientFault>
+        ensures answer { IsAnswer result (unless (refusal_to_consume who name.now tag.now self.old) (Ok tt)) }
+        ensures ok { OnOk result (self.new ≡ with_consumer (consumer_by who name.now tag.now no_ack prefetch self.old) self.old) }
+        ensures err { OnErr result (self.new ≡ self.old) }
+    {
+        if let Some(fault) = self.consume_refusal(who, name, tag) {
+            return Err(fault);
+        }
+        let consumer = self.new_consumer(who, name, tag, no_ack, prefetch)?;
+        self.begin(consumer)
+    }
+
+    /// Ends the client's consumer of that tag; false exactly where there is none. What it holds stays held.
+    pub fn cancel(&mut self, who: Client, tag: &str) -> bool
+        ensures there { result ≡ is_some (consumer_of who tag.now self.old) }
+        ensures ended { self.new ≡ without_consumer who tag.now self.old }
+    {
+        let there = find_consumer(&self.consumers, who, tag).is_some();
+        remove_consumer(&mut self.consumers, who, tag);
+        there
+    }
+}

@@ -1,0 +1,34 @@
+//! The broker that clients use: queues, exchanges, bindings, consumers and messages of a virtual host.
+#![tactic(auto)]
+
+mod bind;
+mod client;
+mod consume;
+mod consumer;
+mod declare;
+mod deliver;
+mod exchanges;
+mod fault;
+mod mailbox;
+mod names;
+mod publish;
+mod queues;
+mod settle;
+mod shared;
+mod standing;
+mod vhost;
+
+pub use client::{Client, ExchangeShape};
+pub use consumer::Consumer;
+pub use deliver::Delivered;
+pub use exchanges::Exchanges;
+pub use fault::ClientFault;
+pub use mailbox::{CopyMessage, Mailbox, Sweep};
+pub use publish::Accepted;
+pub use queues::Queues;
+pub use shared::Shared;
+pub use standing::StandingQueue;
+pub use vhost::Vhost;
+
+#[cfg(test)]
+mod tests;

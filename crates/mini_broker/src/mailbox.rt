@@ -1,0 +1,270 @@
+//! The copies of a queue with their messages.
+
+ghost use Rattle.std.specs.Prelude.{◌≡◌, ◌==◌, ◌<◌, [], ◌∷◌, ◌++◌, IfSome, IfNone, OnOk, OnErr, not, is_some, map, filter, count_by, length, vec_len, vec_capacity};
+ghost use Rattle.std.specs.Option.{option_copied, option_map};
+ghost use Rattle.queue_core.specs.Rows.{IsAbove, first_ready, is_ready, is_held_by, has, has_held, holder_of};
+ghost use Rattle.mini_broker.specs.Mail.{empty, entered, fresh, handed, given, left, released, released_from, purged, stored, as_seen, copy_of, first_copy, swept, is_held_at as is_held_by_client};
+
+use crate::shared::Shared;
+use queue_core::{CopyNo, Holder, Queue};
+use std::alloc::{AllocError, Global};
+use std::marker::Model;
+
+/// A copy's message, and whether the copy was handed out before.
+#[derive(Drop)]
+pub struct CopyMessage {
+    /// The copy's number.
+    pub number: CopyNo,
+    /// Whether it was handed out before (AMQP 0-9-1, basic.deliver: redelivered).
+    pub again: bool,
+    /// What was published.
+    pub message: Shared,
+}
+
+/// What is done to every queue.
+#[derive(Clone, Copy)]
+pub enum Sweep {
+    /// A flush stores what is there.
+    Store,
+    /// The client's connection ends.
+    Free(u32),
+    /// The copy leaves, if the client holds it.
+    Leave {
+        /// The client's number.
+        client: u32,
+        /// The copy's number.
+        number: CopyNo,
+    },
+    /// The copy is ready again, if the client holds it.
+    Release {
+        /// The client's number.
+        client: u32,
+        /// The copy's number.
+        number: CopyNo,
+    },
+}
+
+/// The copies of a queue.
+#[derive(Drop)]
+pub struct Mailbox {
+    queue: Queue,
+    copies: Vec<CopyMessage>,
+}
+
+impl Model for Mailbox {
+    ghost use Rattle.mini_broker.specs.Mail.{Mail, HaveMessages};
+    ghost use Rattle.std.specs.Coded.{codes};
+    ghost use Rattle.mini_broker.specs.contracts.mailbox.CopyMessage as copy;
+
+    ghost Value = { Mail };
+
+    ghost coded = { Prim.hlevel (codes, copy.the_row.coded) };
+
+    ghost view = { λ m. record { rows = m.queue; copies = m.copies.items } };
+
+    ghost invariant = { λ m. HaveMessages m.queue m.copies.items };
+}
+
+impl Mailbox {
+    /// No copies.
+    pub fn new(alloc: Global) -> Self
+        ensures { result ≡ empty }
+    {
+        Mailbox {
+            queue: Queue::new(alloc),
+            copies: Vec::new(alloc),
+        }
+    }
+
+    /// Lets a copy enter at the tail.
+    ///
+    /// # Errors
+    ///
+    /// For want of memory; the mailbox is then as it was.
+    pub fn enter(&mut self, number: CopyNo, message: Shared) -> Result<(), AllocError>
+        requires { IsAbove self.old.rows number }
+        ensures ok { OnOk result (self.new ≡ entered number message self.old) }
+        ensures err { OnErr result (self.new ≡ self.old) }
+    {
+        self.copies.reserve(1)?;
+        self.queue.enter(number)?;
+        add(&mut self.copies, number, message);
+        Ok(())
+    }
+
+    /// Hands the first ready copy to the holder; None exactly where none is ready.
+    pub fn hand(&mut self, holder: Holder) -> Option<CopyNo>
+        ensures first { result ≡ first_ready self.old.rows }
+        ensures held { IfSome result (λ number. self.new ≡ handed number holder self.old) }
+        ensures none { IfNone result (self.new ≡ self.old) }
+    {
+        let number = self.queue.hand(holder)?;
+        see(&mut self.copies, number);
+        Some(number)
+    }
+
+    /// Hands out the first ready copy, to the holder or for good; None exactly where none is ready.
+    pub fn hand_out(&mut self, holder: Holder, no_ack: bool) -> Option<CopyNo>
+        ensures first { result ≡ first_ready self.old.rows }
+        ensures given { IfSome result (λ number. self.new ≡ given number holder no_ack self.old) }
+        ensures none { IfNone result (self.new ≡ self.old) }
+    {
+        if !no_ack {
+            return self.hand(holder);
+        }
+        let number = self.queue.first_ready()?;
+        self.leave(number);
+        Some(number)
+    }
+
+    /// Removes the copy; false exactly where it isn't there.
+    pub fn leave(&mut self, number: CopyNo) -> bool
+        ensures there { result ≡ has number self.old.rows }
+        ensures left { self.new ≡ left number self.old }
+    {
+        let there = self.queue.leave(number);
+        remove(&mut self.copies, number);
+        there
+    }
+
+    /// Makes the held copy ready again at its place; false exactly where it isn't held.
+    pub fn release(&mut self, number: CopyNo) -> bool
+        ensures held { result ≡ has_held number self.old.rows }
+        ensures ready { self.new ≡ released number self.old }
+    {
+        self.queue.release(number)
+    }
+
+    /// Makes each copy ready again that a consumer of the client holds.
+    pub fn release_client(&mut self, client: u32)
+        ensures { self.new ≡ released_from client self.old }
+    {
+        self.queue.release_client(client);
+    }
+
+    /// Removes each ready copy, and gives how many there were.
+    pub fn purge(&mut self) -> u64
+        ensures count { result ≡ count_by is_ready self.old.rows }
+        ensures purged { self.new ≡ purged self.old }
+    {
+        let count = self.queue.purge();
+        keep_held(&mut self.copies, &self.queue);
+        count
+    }
+
+    /// Marks each copy as stored.
+    pub fn mark_stored(&mut self)
+        ensures { self.new ≡ stored self.old }
+    {
+        self.queue.mark_stored();
+    }
+
+    /// Whether a consumer of the client holds the copy.
+    pub fn is_held_at(&self, client: u32, number: CopyNo) -> bool
+        ensures { result ≡ is_held_by_client client number self.now }
+    {
+        match self.queue.holder(number) {
+            Some(holder) => !holder.link && holder.number == client,
+            None => false,
+        }
+    }
+
+    /// Does what is done to every queue.
+    pub fn sweep(&mut self, sweep: Sweep)
+        ensures { self.new ≡ swept sweep self.old }
+    {
+        match sweep {
+            Sweep::Store => self.mark_stored(),
+            Sweep::Free(client) => self.release_client(client),
+            Sweep::Leave { client, number } if self.is_held_at(client, number) => {
+                self.leave(number);
+            }
+            Sweep::Release { client, number } if self.is_held_at(client, number) => {
+                self.release(number);
+            }
+            Sweep::Leave { .. } | Sweep::Release { .. } => {}
+        }
+    }
+
+    /// What `hand` would hand out now; None exactly where no copy is ready.
+    pub fn first(&self) -> Option<&CopyMessage>
+        ensures first { option_copied result ≡ first_copy self.now }
+        ensures ready { option_map (λ copy. copy.now.number) result ≡ first_ready self.now.rows }
+    {
+        let number = self.queue.first_ready()?;
+        find_copy(&self.copies, number)
+    }
+
+    /// The number of ready copies.
+    pub fn ready(&self) -> u64
+        ensures { result ≡ count_by is_ready self.now.rows }
+    {
+        self.queue.ready()
+    }
+
+    /// The number of copies, ready or held.
+    pub fn count(&self) -> u64
+        ensures { result ≡ length self.now.rows }
+    {
+        self.queue.count()
+    }
+
+    /// The number of copies that the holder holds.
+    pub fn held_by(&self, holder: Holder) -> u64
+        ensures { result ≡ count_by (is_held_by holder) self.now.rows }
+    {
+        self.queue.held_by(holder)
+    }
+
+    /// Who holds the copy; None exactly where it isn't there or is ready.
+    pub fn holder(&self, number: CopyNo) -> Option<Holder>
+        ensures { result ≡ holder_of number self.now.rows }
+    {
+        self.queue.holder(number)
+    }
+}
+
+/// The copy of that number.
+fn find_copy(copies: &[CopyMessage], number: CopyNo) -> Option<&CopyMessage>
+    ensures { option_copied result ≡ copy_of number copies.now }
+{
+    copies.iter().find(|copy| copy.number == number)
+}
+
+/// From now on the copy counts as handed out before.
+fn see(copies: &mut Vec<CopyMessage>, number: CopyNo)
+    ensures { copies.new.items ≡ map (as_seen number) copies.old.items }
+{
+    for copy in copies.iter_mut() {
+        copy.again = copy.number == number || copy.again;
+    }
+}
+
+/// Removes the copy.
+fn remove(copies: &mut Vec<CopyMessage>, number: CopyNo)
+    ensures { copies.new.items ≡ filter (λ copy. not (copy.number == number)) copies.old.items }
+{
+    copies.retain(|copy| copy.number != number);
+}
+
+/// Keeps the copies that are held.
+fn keep_held(copies: &mut Vec<CopyMessage>, queue: &Queue)
+    ensures { copies.new.items ≡ filter (λ copy. is_some (holder_of copy.number queue.now)) copies.old.items }
+{
+    copies.retain(|copy| queue.holder(copy.number).is_some());
+}
+
+/// Adds a copy, for which there is room.
+fn add(copies: &mut Vec<CopyMessage>, number: CopyNo, message: Shared)
+    requires { vec_len copies.old < vec_capacity copies.old }
+    ensures { copies.new.items ≡ copies.old.items ++ fresh number message ∷ [] }
+{
+    match copies.push(CopyMessage {
+        number,
+        again: false,
+        message,
+    }) {
+        Ok(()) => {}
+        Err(_) => unreachable!(),
+    }
+}
