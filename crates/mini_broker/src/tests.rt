@@ -2,10 +2,10 @@ ghost use Rattle.std.specs.Prelude.{◌≡◌, ◌≤◌, IfOk, length};
 ghost use Rattle.mini_broker.specs.Queues.{AreAbove};
 
 use super::*;
-use amqp_props::{ExchangeKind, QueueOptions};
+use amqp_props::{ExchangeKind, Message, Octets, Properties, QueueOptions, Text};
 use field_tables::Table;
 use route_core::Sort;
-use std::alloc::Global;
+use std::alloc::{AllocError, Global};
 use std::test::Fail;
 
 const WHO: Client = Client {
@@ -30,6 +30,30 @@ const SHAPE: ExchangeShape = ExchangeShape {
     internal: false,
 };
 
+fn message(alloc: Global, exchange: &str, key: &str) -> Result<Message, AllocError> {
+    Ok(Message {
+        exchange: Text::from_str(alloc, exchange)?,
+        key: Text::from_str(alloc, key)?,
+        props: Properties {
+            content_type: None,
+            content_encoding: None,
+            headers: None,
+            delivery_mode: None,
+            priority: None,
+            correlation_id: None,
+            reply_to: None,
+            expiration: None,
+            message_id: None,
+            timestamp: None,
+            type_name: None,
+            user_id: None,
+            app_id: None,
+            reserved: None,
+        },
+        body: Octets::new(alloc, Vec::new(alloc))?,
+    })
+}
+
 /// A virtual host with the queue `q`, which the client has to itself.
 fn one_queue(alloc: Global) -> Result<Vhost, ClientFault>
     ensures above { IfOk result (λ vhost. AreAbove 1 vhost.queues) }
@@ -43,6 +67,14 @@ fn one_queue(alloc: Global) -> Result<Vhost, ClientFault>
     }
 }
 
+/// A virtual host whose queue `q` has copy 1.
+fn published(alloc: Global) -> Result<Vhost, ClientFault> {
+    let mut vhost = one_queue(alloc)?;
+    let message = message(alloc, "", "q")?;
+    vhost.publish(message, 1)?;
+    Ok(vhost)
+}
+
 /// A queue is declared once, and refused to another connection, which it is exclusive to.
 #[test]
 fn declared(rt: HostRuntime) -> Result<(), Fail> {
@@ -51,6 +83,8 @@ fn declared(rt: HostRuntime) -> Result<(), Fail> {
     assert!(rt; made == Ok(true));
     let locked = vhost.declare_queue(OTHER, "q", EXCLUSIVE);
     assert!(rt; locked == Err(ClientFault::Refused(405)));
+    assert!(rt; vhost.queue("q") == Some(EXCLUSIVE));
+    assert!(rt; vhost.exclusive_to("q") == Some(1));
     Ok(())
 }
 
@@ -79,6 +113,39 @@ fn bound(rt: HostRuntime) -> Result<(), Fail> {
     Ok(())
 }
 
+/// A copy is got and given back.
+#[test]
+fn got(rt: HostRuntime) -> Result<(), Fail> {
+    let mut vhost = published(rt.alloc())?;
+    let first = vhost.get(WHO, "q", false)?;
+    assert!(rt; first.copy == 1 && !first.again);
+    assert!(rt; vhost.requeue(WHO, 1));
+    assert!(rt; vhost.ready("q") == 1);
+    Ok(())
+}
+
+/// A copy is got and acknowledged, by its client alone.
+#[test]
+fn acknowledged(rt: HostRuntime) -> Result<(), Fail> {
+    let mut vhost = published(rt.alloc())?;
+    vhost.get(WHO, "q", false)?;
+    assert!(rt; !vhost.ack(OTHER, 1));
+    assert!(rt; vhost.ack(WHO, 1));
+    assert!(rt; vhost.copies("q") == 0);
+    Ok(())
+}
+
+/// A copy is delivered and rejected.
+#[test]
+fn delivered(rt: HostRuntime) -> Result<(), Fail> {
+    let mut vhost = published(rt.alloc())?;
+    vhost.consume(WHO, "q", "t", false, 1)?;
+    let delivered = vhost.deliver(WHO, "t")?;
+    assert!(rt; delivered.copy == 1);
+    assert!(rt; vhost.reject(WHO, 1));
+    Ok(())
+}
+
 /// A consumer ends.
 #[test]
 fn cancelled(rt: HostRuntime) -> Result<(), Fail> {
@@ -86,5 +153,15 @@ fn cancelled(rt: HostRuntime) -> Result<(), Fail> {
     vhost.consume(WHO, "q", "t", false, 1)?;
     assert!(rt; vhost.consumers("q") == 1);
     assert!(rt; vhost.cancel(WHO, "t"));
+    Ok(())
+}
+
+/// What is offered is purged.
+#[test]
+fn purged(rt: HostRuntime) -> Result<(), Fail> {
+    let mut vhost = published(rt.alloc())?;
+    vhost.flush();
+    assert!(rt; vhost.peek("q")?.is_some());
+    assert!(rt; vhost.purge(WHO, "q") == Ok(1));
     Ok(())
 }
