@@ -9,7 +9,7 @@ ghost use Rattle.route_core.specs.Routing.{with_binding, without_binding};
 ghost use Rattle.mini_broker.specs.Answers.{IsAnswer};
 ghost use Rattle.mini_broker.specs.Bind.{stands_as as stands_as_end, is_locked_end as is_end_locked, bind_refusal as refusal_of, bind_answer, unbind_answer, with_routing};
 
-use crate::client::Client;
+use fed_journal::place::Client;
 use crate::declare::is_locked;
 use crate::fault::ClientFault;
 use crate::names::is_unbindable;

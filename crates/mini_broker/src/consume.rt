@@ -7,7 +7,7 @@ ghost use Rattle.mini_broker.specs.Consumers.{is_client, is_consumer as is_this_
 ghost use Rattle.mini_broker.specs.Bind.{unless};
 ghost use Rattle.mini_broker.specs.Consume.{refusal_at as refusal_of_queue, queue_refusal as refusal_by_queue, consumer_of, consume_refusal as refusal_to_consume, client_number as number_of_client, registered, holder_for, new_consumer as consumer_by, with_consumer, without_consumer};
 
-use crate::client::Client;
+use fed_journal::place::Client;
 use crate::consumer::{Consumer, client_place, find_consumer, is_consumer};
 use crate::declare::is_locked;
 use crate::fault::ClientFault;

@@ -4,7 +4,7 @@ ghost use Rattle.std.specs.Prelude.{◌≡◌, find, position};
 ghost use Rattle.std.specs.Option.{option_copied};
 ghost use Rattle.mini_broker.specs.Consumers.{is_client, is_consumer as is_this_consumer};
 
-use crate::client::Client;
+use fed_journal::place::Client;
 use amqp_props::Text;
 use queue_core::Holder;
 

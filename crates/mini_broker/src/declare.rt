@@ -10,7 +10,7 @@ ghost use Rattle.mini_broker.specs.Queues.{queue_of};
 ghost use Rattle.mini_broker.specs.Exchanges.{shape_of, declared_shape};
 ghost use Rattle.mini_broker.specs.Declare.{is_locked as is_queue_locked, same_options as options_are_same, declared_again as queue_again, declare_answer, owner_of as owner_by, with_queue, same_kind as kinds_are_same, same_shape as shapes_are_same, declared_exchange_again as exchange_again, declare_exchange_answer, with_exchange};
 
-use crate::client::{Client, ExchangeShape};
+use fed_journal::place::{Client, ExchangeShape};
 use crate::exchanges::Exchanges;
 use crate::fault::ClientFault;
 use crate::mailbox::Mailbox;

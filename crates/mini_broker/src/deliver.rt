@@ -8,7 +8,7 @@ ghost use Rattle.mini_broker.specs.State.{SameNames};
 ghost use Rattle.mini_broker.specs.Consume.{consumer_of, registered, client_number as number_of_client};
 ghost use Rattle.mini_broker.specs.Deliver.{offer_of, offered, held_count as count_of_held, is_busy as is_consumer_busy, deliver_to as delivered_to, deliver_answer, handed_over, with_delivered, get_answer, get_part as part_of_get, with_got};
 
-use crate::client::Client;
+use fed_journal::place::Client;
 use crate::consume::{client_number, register};
 use crate::consumer::{Consumer, find_consumer};
 use crate::fault::ClientFault;

@@ -2,7 +2,6 @@
 #![tactic(auto)]
 
 mod bind;
-mod client;
 mod consume;
 mod consumer;
 mod declare;
@@ -18,11 +17,11 @@ mod shared;
 mod standing;
 mod vhost;
 
-pub use client::{Client, ExchangeShape};
 pub use consumer::Consumer;
 pub use deliver::Delivered;
 pub use exchanges::Exchanges;
 pub use fault::ClientFault;
+pub use fed_journal::place::{Client, ExchangeShape};
 pub use mailbox::{CopyMessage, Mailbox, Sweep};
 pub use publish::Accepted;
 pub use queues::Queues;

@@ -7,7 +7,7 @@ ghost use Rattle.mini_broker.specs.Queues.{ready_count, changed, all_changed, wi
 ghost use Rattle.mini_broker.specs.State.{SameNames};
 ghost use Rattle.mini_broker.specs.Settle.{number_among, holds as client_holds, settled, requeued, purge_answer, with_purged, all_swept};
 
-use crate::client::Client;
+use fed_journal::place::Client;
 use crate::consumer::client_place;
 use crate::fault::ClientFault;
 use crate::mailbox::Sweep;

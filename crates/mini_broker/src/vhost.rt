@@ -6,7 +6,7 @@ ghost use Rattle.mini_broker.specs.Queues.{queue_of, ready_count, copy_count};
 ghost use Rattle.mini_broker.specs.Exchanges.{shape_of};
 ghost use Rattle.mini_broker.specs.Vhosts.{bare, consumer_count};
 
-use crate::client::{Client, ExchangeShape};
+use fed_journal::place::{Client, ExchangeShape};
 use crate::consumer::Consumer;
 use crate::exchanges::Exchanges;
 use crate::queues::Queues;

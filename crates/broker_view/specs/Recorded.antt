@@ -1,0 +1,42 @@
+-- What an entry of the journal does to a virtual host.
+use Rattle.std.specs.Prelude.{ℕ, List, true, if◌then◌else◌}
+use Rattle.queue_core.specs.declared.rows.Holder.{Holder}
+use Rattle.fed_journal.specs.declared.place.Place.{Place}
+use Rattle.fed_journal.specs.declared.entry.Entry.{Entry}
+use Rattle.fed_journal.specs.declared.entry.Entry.TheVariants.{MadeQueue, MadeExchange, GoneQueue, Bound, Unbound, Published, Flushed, Took, Settled, Consumed, Cancelled, Delivered, Acked, Rejected, Requeued, Purged, Closed}
+use Rattle.fed_journal.specs.Names.{same_text, same_place}
+use Rattle.fed_journal.specs.Routes.{bound, unbound}
+use Rattle.mini_broker.specs.declared.mailbox.Sweep.TheVariants as sweeps
+use Rattle.mini_broker.specs.State.{VhostState}
+use Rattle.mini_broker.specs.Declare.{with_queue, with_exchange}
+use Rattle.mini_broker.specs.Bind.{with_routing}
+use Rattle.mini_broker.specs.Consume.{new_consumer, with_consumer, without_consumer}
+use Rattle.mini_broker.specs.Settle.{settled, requeued, with_purged, all_swept}
+use Rattle.mini_broker.specs.Close.{disconnected, without_queue}
+use Rattle.mini_broker.specs.Record.{with_entered, with_handed, with_taken, with_settled}
+
+-- a session of a link, by the link's number
+abbrev pub session_holder : ℕ → ℕ → Holder
+session_holder link session = record { link = true; number = link; part = session }
+
+-- what happened at that place happened to its virtual host; a link's session takes and removes copies by their numbers
+abbrev pub recorded : ℕ → Place → Entry → VhostState → VhostState
+recorded link p (MadeQueue place queue options owner) v = if same_place place p then with_queue queue options owner v else v
+recorded link p (MadeExchange place exchange shape) v = if same_place place p then with_exchange exchange shape v else v
+recorded link p (GoneQueue place queue) v = if same_place place p then without_queue queue v else v
+recorded link p (Bound place binding) v = if same_place place p then with_routing (bound binding v.routing) v else v
+recorded link p (Unbound place binding) v = if same_place place p then with_routing (unbound binding v.routing) v else v
+recorded link p (Published x) v = if same_place x.place p then with_entered x.queues x.first x.message v else v
+recorded link p (Flushed broker) v = if same_text broker p.broker then all_swept sweeps.Store v else v
+recorded link p (Took l session copy) v = with_taken copy (session_holder link session) v
+recorded link p (Settled l session copy) v = with_settled copy v
+recorded link p (Consumed place client queue tag no_ack prefetch) v =
+    if same_place place p then with_consumer (new_consumer client queue tag no_ack prefetch v) v else v
+recorded link p (Cancelled place client tag) v = if same_place place p then without_consumer client tag v else v
+recorded link p (Delivered place client tag queue copy no_ack) v = if same_place place p then with_handed client tag queue copy no_ack v else v
+recorded link p (Acked place client copy) v = if same_place place p then settled client copy v else v
+recorded link p (Rejected place client copy) v = if same_place place p then settled client copy v else v
+recorded link p (Requeued place client copy) v = if same_place place p then requeued client copy v else v
+recorded link p (Purged place queue) v = if same_place place p then with_purged queue v else v
+recorded link p (Closed place connection) v = if same_place place p then disconnected connection v else v
+recorded link p _ v = v
