@@ -11,15 +11,15 @@ use Rattle.mini_broker.specs.State.{VhostState}
 use Rattle.mini_broker.specs.Declare.{with_queue, with_exchange}
 use Rattle.mini_broker.specs.Bind.{with_routing}
 use Rattle.mini_broker.specs.Consume.{new_consumer, with_consumer, without_consumer}
-use Rattle.mini_broker.specs.Settle.{settled, requeued, with_purged, all_swept}
+use Rattle.mini_broker.specs.Settle.{with_purged, all_swept}
 use Rattle.mini_broker.specs.Close.{disconnected, without_queue}
-use Rattle.mini_broker.specs.Record.{with_entered, with_handed, with_taken, with_settled}
+use Rattle.mini_broker.specs.Record.{with_entered, with_handed, with_taken, with_settled, with_released}
 
 -- a session of a link, by the link's number
 abbrev pub session_holder : ℕ → ℕ → Holder
 session_holder link session = record { link = true; number = link; part = session }
 
--- what happened at that place happened to its virtual host; a link's session takes and removes copies by their numbers
+-- what happened at that place happened to its virtual host; what becomes of a copy that is handed out goes by its number, which no other copy of the run has
 abbrev pub recorded : ℕ → Place → Entry → VhostState → VhostState
 recorded link p (MadeQueue place queue options owner) v = if same_place place p then with_queue queue options owner v else v
 recorded link p (MadeExchange place exchange shape) v = if same_place place p then with_exchange exchange shape v else v
@@ -34,9 +34,9 @@ recorded link p (Consumed place client queue tag no_ack prefetch) v =
     if same_place place p then with_consumer (new_consumer client queue tag no_ack prefetch v) v else v
 recorded link p (Cancelled place client tag) v = if same_place place p then without_consumer client tag v else v
 recorded link p (Delivered place client tag queue copy no_ack) v = if same_place place p then with_handed client tag queue copy no_ack v else v
-recorded link p (Acked place client copy) v = if same_place place p then settled client copy v else v
-recorded link p (Rejected place client copy) v = if same_place place p then settled client copy v else v
-recorded link p (Requeued place client copy) v = if same_place place p then requeued client copy v else v
+recorded link p (Acked place client copy) v = with_settled copy v
+recorded link p (Rejected place client copy) v = with_settled copy v
+recorded link p (Requeued place client copy) v = with_released copy v
 recorded link p (Purged place queue) v = if same_place place p then with_purged queue v else v
 recorded link p (Closed place connection) v = if same_place place p then disconnected connection v else v
 recorded link p _ v = v

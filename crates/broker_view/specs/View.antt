@@ -112,9 +112,13 @@ RowStands J p v row = StandsAs J p v row.copy (standing row.copy J) row.hold
 abbrev pub is_there : List Entry → ℕ → Bool
 is_there J c = not (is_gone J c)
 
+-- every copy is in the queue that it entered (AMQP 0-9-1, 3.1.3)
+abbrev pub HaveHomes : List Entry → Type 0
+HaveHomes J = (p : Place) (q : List ℕ) → All (HasHome J p q) (entered J p q)
+
 -- which copies are in the queues, and who holds them (AMQP 0-9-1, 3.1.1 "The Message Queue")
 pub record HasCopies (J : List Entry) (p : Place) (v : VhostState) : Type 0 where
-  pub homes : (q : List ℕ) → All (HasHome J p q) (entered J p q)
+  pub homes : HaveHomes J
   pub numbers : (q : List ℕ) → map (λ row. row.copy) (rows_in q v.queues) ≡ filter (is_there J) (entered J p q)
   pub rows : (q : List ℕ) → All (RowStands J p v) (rows_in q v.queues)
 

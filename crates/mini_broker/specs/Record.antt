@@ -4,7 +4,7 @@ use Rattle.std.specs.Option.{option_map_or}
 use Rattle.queue_core.specs.declared.rows.Holder.{Holder}
 use Rattle.amqp_props.specs.declared.message.Message.{Message}
 use Rattle.fed_journal.specs.declared.place.Client.{Client}
-use Rattle.mini_broker.specs.Mail.{handed, left}
+use Rattle.mini_broker.specs.Mail.{handed, left, released}
 use Rattle.mini_broker.specs.Queues.{all_changed, with_mail}
 use Rattle.mini_broker.specs.State.{VhostState}
 use Rattle.mini_broker.specs.Publish.{all_entered}
@@ -30,6 +30,10 @@ with_handed who tag name copy no_ack v = record v {
 abbrev pub with_taken : ℕ → Holder → VhostState → VhostState
 with_taken copy holder v = record v { queues = all_changed (with_mail (handed copy holder)) v.queues }
 
--- the copy that a link acknowledged leaves its queue (AMQP 0-9-1, basic.ack)
+-- the copy that was acknowledged or rejected leaves its queue (AMQP 0-9-1, basic.ack, and basic.reject without requeue)
 abbrev pub with_settled : ℕ → VhostState → VhostState
 with_settled copy v = record v { queues = all_changed (with_mail (left copy)) v.queues }
+
+-- the copy that was given back is ready again at its place (AMQP 0-9-1, basic.reject with requeue; RabbitMQ, Consumer Acknowledgements: requeueing)
+abbrev pub with_released : ℕ → VhostState → VhostState
+with_released copy v = record v { queues = all_changed (with_mail (released copy)) v.queues }
