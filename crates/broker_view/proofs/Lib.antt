@@ -1,0 +1,12 @@
+pub mod Copies
+pub mod CopiesStep
+pub mod CopySteps
+pub mod EnteredRows
+pub mod FreedRows
+pub mod HeldHome
+pub mod Matching
+pub mod Names
+pub mod PublishedStep
+pub mod Publications
+pub mod Questions
+pub mod QueueRows

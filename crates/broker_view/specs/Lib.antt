@@ -1,3 +1,4 @@
+pub mod Hosts
 pub mod Recorded
 pub mod Suits
 pub mod View

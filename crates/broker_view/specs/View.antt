@@ -23,6 +23,11 @@ use Rattle.mini_broker.specs.Exchanges.{shape_of}
 use Rattle.mini_broker.specs.Consume.{consumer_of}
 use Rattle.mini_broker.specs.State.{VhostState, AreRouted}
 
+-- each name once
+abbrev pub AreDistinct : List (List ℕ) → Type 0
+AreDistinct [] = Unit {0}
+AreDistinct (q ∷ qs) = (list_any (same_text q) qs ≡ false) × AreDistinct qs
+
 -- what was declared and bound (AMQP 0-9-1, 3.1 "The AMQ model")
 pub record IsConfigured (J : List Entry) (p : Place) (v : VhostState) : Type 0 where
   pub options : (q : List ℕ) → option_map (λ s. s.options) (queue_of q v.queues) ≡ queue_options J p q
@@ -116,9 +121,14 @@ is_there J c = not (is_gone J c)
 abbrev pub HaveHomes : List Entry → Type 0
 HaveHomes J = (p : Place) (q : List ℕ) → All (HasHome J p q) (entered J p q)
 
+-- what a client of a place holds entered a queue of that place
+abbrev pub AreHeldAtHome : List Entry → Type 0
+AreHeldAtHome J = (c : ℕ) (p : Place) (k : Client) (tag : List ℕ) → standing c J ≡ Held (holders.Channel p k tag) → (q : List ℕ) × (list_any (λ n. n == c) (entered J p q) ≡ true)
+
 -- which copies are in the queues, and who holds them (AMQP 0-9-1, 3.1.1 "The Message Queue")
 pub record HasCopies (J : List Entry) (p : Place) (v : VhostState) : Type 0 where
   pub homes : HaveHomes J
+  pub held : AreHeldAtHome J
   pub numbers : (q : List ℕ) → map (λ row. row.copy) (rows_in q v.queues) ≡ filter (is_there J) (entered J p q)
   pub rows : (q : List ℕ) → All (RowStands J p v) (rows_in q v.queues)
 

@@ -1,0 +1,6 @@
+use Rattle.broker_view.proofs.Questions.{first_ready-is}
+use Rattle.broker_view.proofs.CopiesStep.{copies-step}
+use Rattle.broker_view.proofs.laws.first.Goals as goal
+
+pub returns : goal.returns
+returns c = first_ready-is

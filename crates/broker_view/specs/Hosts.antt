@@ -1,0 +1,30 @@
+-- The virtual hosts of a run's brokers.
+use Rattle.std.specs.Prelude.{◌≡◌, ℕ, List, [], ◌∷◌, ◌++◌, All, map, codes}
+use Rattle.std.specs.List.{list_any}
+use Rattle.fed_journal.specs.declared.place.Place.{Place}
+use Rattle.fed_journal.specs.declared.entry.Entry.{Entry}
+use Rattle.fed_journal.specs.Names.{same_text}
+use Rattle.fed_journal.specs.Configuration.{is_broker}
+use Rattle.broker_view.specs.declared.host.Host.{Host}
+use Rattle.broker_view.specs.Recorded.{recorded}
+use Rattle.broker_view.specs.Suits.{Suits}
+use Rattle.broker_view.specs.View.{AreDistinct, IsView}
+
+-- a broker has the virtual host `/` (RabbitMQ, Virtual Hosts)
+abbrev pub place_of : List ℕ → Place
+place_of broker = record { broker = broker; vhost = codes "/" }
+
+abbrev pub recorded_at : ℕ → Entry → Host → Host
+recorded_at link e host = record host { vhost = recorded link (place_of host.broker) e host.vhost }
+
+-- the brokers of the journal, each once, and what stands at each
+pub record AreViews (J : List Entry) (hosts : List Host) : Type 0 where
+  pub brokers : (b : List ℕ) → list_any (λ host. same_text host.broker b) hosts ≡ is_broker J b
+  pub distinct : AreDistinct (map (λ host. host.broker) hosts)
+  pub views : All (λ host. IsView J (place_of host.broker) host.vhost) hosts
+
+-- some journal suits the entry and leads to the host
+pub record IsRecordable (host : Host) (e : Entry) : Type 0 where
+  pub journal : List Entry
+  pub view : IsView journal (place_of host.broker) host.vhost
+  pub suits : Suits journal e
