@@ -1,0 +1,5 @@
+pub mod Names
+pub mod Tables
+pub mod Sites
+pub mod Routed
+pub mod Configured
