@@ -76,34 +76,34 @@ KeepsLast f = (m : ℕ) (queue : StandingQueue) → IsLast m queue → IsLast m 
 
 last-handed : (copy : ℕ) (holder : Holder) → KeepsLast (handed copy holder)
 last-handed copy holder m queue h =
-    (All-map (λ row. row.copy < m) (rows.with_hold copy (holds.Held holder)) queue.mail.rows h.0, All-map (λ k. k.number < m) (as_seen copy) queue.mail.copies h.1)
+    (All-map (λ (row : Row). row.copy < m) (rows.with_hold copy (holds.Held holder)) queue.mail.rows h.0, All-map (λ (k : CopyMessage). k.number < m) (as_seen copy) queue.mail.copies h.1)
 
 last-left : (copy : ℕ) → KeepsLast (left copy)
 last-left copy m queue h =
-    (All-filter (λ row. not (row.copy == copy)) (λ (row : Row). row.copy < m) queue.mail.rows h.0, All-filter (λ k. not (k.number == copy)) (λ (k : CopyMessage). k.number < m) queue.mail.copies h.1)
+    (All-filter (λ (row : Row). not (row.copy == copy)) (λ (row : Row). row.copy < m) queue.mail.rows h.0, All-filter (λ (k : CopyMessage). not (k.number == copy)) (λ (k : CopyMessage). k.number < m) queue.mail.copies h.1)
 
 last-given : (copy : ℕ) (holder : Holder) (no_ack : Bool) → KeepsLast (given copy holder no_ack)
 last-given copy holder true m queue h = last-left copy m queue h
 last-given copy holder false m queue h = last-handed copy holder m queue h
 
 last-released : (copy : ℕ) → KeepsLast (released copy)
-last-released copy m queue h = (All-map (λ row. row.copy < m) (rows.with_hold copy holds.Ready) queue.mail.rows h.0, h.1)
+last-released copy m queue h = (All-map (λ (row : Row). row.copy < m) (rows.with_hold copy holds.Ready) queue.mail.rows h.0, h.1)
 
 last-freed : (client : ℕ) → KeepsLast (released_from client)
-last-freed client m queue h = (All-map (λ row. row.copy < m) (λ (row : Row). record row { hold = rows.freed_of client row.hold }) queue.mail.rows h.0, h.1)
+last-freed client m queue h = (All-map (λ (row : Row). row.copy < m) (λ (row : Row). record row { hold = rows.freed_of client row.hold }) queue.mail.rows h.0, h.1)
 
 last-purged : KeepsLast purged
 last-purged m queue h =
     (All-filter rows.is_held (λ (row : Row). row.copy < m) queue.mail.rows h.0, All-filter _ (λ (k : CopyMessage). k.number < m) queue.mail.copies h.1)
 
 last-stored : KeepsLast (swept sweeps.Store)
-last-stored m queue h = (All-map (λ row. row.copy < m) (λ (row : Row). record row { stored = true }) queue.mail.rows h.0, h.1)
+last-stored m queue h = (All-map (λ (row : Row). row.copy < m) (λ (row : Row). record row { stored = true }) queue.mail.rows h.0, h.1)
 
 -- ---- changes of the queues
 
 above-all : (f : Mail → Mail) (m : ℕ) (queues : List Named) → KeepsLast f → AreAbove m queues → AreAbove m (all_changed (with_mail f) queues)
 above-all f m queues keeps h =
-    All-map (λ q. IsLast m q.1) (λ (q : Named). (q.0, with_mail f q.1)) queues (All-weaker (λ (q : Named). IsLast m q.1) (λ q. IsLast m (with_mail f q.1)) (λ q k. keeps m q.1 k) queues h)
+    All-map (λ (q : Named). IsLast m q.1) (λ (q : Named). (q.0, with_mail f q.1)) queues (All-weaker (λ (q : Named). IsLast m q.1) (λ q. IsLast m (with_mail f q.1)) (λ q k. keeps m q.1 k) queues h)
 
 above-changed : (name : List ℕ) (f : Mail → Mail) (m : ℕ) (queues : List Named) → KeepsLast f → AreAbove m queues → AreAbove m (changed name (with_mail f) queues)
 above-changed name f m [] keeps h = h
@@ -147,14 +147,14 @@ next-above name n m (q ∷ queues) h =
     ]
 
 above-entered : (names : List (List ℕ)) (n : ℕ) (m : Message) (queues : List Named) → AreAbove n queues → AreAbove (n + length names) (all_entered names n m queues)
-above-entered [] n m queues h = raise n (n + length {A = List ℕ} []) queues (omega arith) h
+above-entered [] n m queues h = let none : List (List ℕ) = [] in raise n (n + length none) queues (omega arith) h
 above-entered (name ∷ names) n m queues h =
     let next : List Named = changed name (with_mail (entered n m)) queues in
     raise (n + 1 + length names) (n + length (name ∷ names)) (all_entered names (n + 1) m next) (omega arith) (above-entered names (n + 1) m next (next-above name n m queues h))
 
 -- the copies of a publication have the next numbers
 above-published : (qs : List (List ℕ)) (first n : ℕ) (m : Message) (queues : List Named) → first ≡ first_of n qs → AreAbove n queues → AreAbove (n + length qs) (all_entered qs first m queues)
-above-published [] first n m queues e h = raise n (n + length {A = List ℕ} []) queues (omega arith) h
+above-published [] first n m queues e h = let none : List (List ℕ) = [] in raise n (n + length none) queues (omega arith) h
 above-published (q ∷ qs) first n m queues e h =
     subst (λ k. AreAbove (n + length (q ∷ qs)) (all_entered (q ∷ qs) k m queues)) (sym e) (above-entered (q ∷ qs) n m queues h)
 
@@ -178,7 +178,7 @@ grown l J p (MadeQueue place queue options owner) v n same suits h =
     maybe (same_place place p) (with_queue queue options owner v) v n (All-push (λ (q : Named). IsLast n q.1) v.queues (queue, made_queue v.made options owner) h (All-nil (λ (row : Row). row.copy < n), All-nil (λ (k : CopyMessage). k.number < n))) h
 grown l J p (MadeExchange place exchange shape) v n same suits h = maybe (same_place place p) (with_exchange exchange shape v) v n h h
 grown l J p (GoneQueue place queue) v n same suits h =
-    maybe (same_place place p) (without_queue queue v) v n (All-filter (λ q. not (bytes_eq q.0 queue)) (λ (q : Named). IsLast n q.1) v.queues h) h
+    maybe (same_place place p) (without_queue queue v) v n (All-filter (λ (q : Named). not (bytes_eq q.0 queue)) (λ (q : Named). IsLast n q.1) v.queues h) h
 grown l J p (Bound place binding) v n same suits h = maybe (same_place place p) (with_routing (bound binding v.routing) v) v n h h
 grown l J p (Unbound place binding) v n same suits h = maybe (same_place place p) (with_routing (unbound binding v.routing) v) v n h h
 grown l J p (Flushed broker) v n same suits h = maybe (same_text broker p.broker) (all_swept sweeps.Store v) v n (above-all (swept sweeps.Store) n v.queues last-stored h) h

@@ -3,3 +3,5 @@ pub mod Tables
 pub mod Sites
 pub mod Routed
 pub mod Configured
+pub mod Counted
+pub mod Reached

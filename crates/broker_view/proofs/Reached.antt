@@ -30,6 +30,7 @@ use Rattle.mini_broker.specs.Queues.{queue_of}
 use Rattle.mini_broker.specs.State.{VhostState}
 use Rattle.broker_view.specs.View.{IsConfigured, AreDistinct}
 use Rattle.broker_view.proofs.Names.{same_text-refl, same_text-sym}
+use Rattle.broker_view.proofs.Tables.{none-push, none-filter}
 use Rattle.broker_view.proofs.Sites.{filter-with}
 
 -- ---- each stands
@@ -93,32 +94,17 @@ named-sym : (one other : Object) → is_named (sort_of one.node) one.name other 
 named-sym one other =
     ap (λ b. b && bytes_eq other.name one.name) (sort-sym (sort_of other.node) (sort_of one.node)) ∙ ap (λ b. same_sort (sort_of one.node) (sort_of other.node) && b) (same_text-sym other.name one.name)
 
-any-push : {X : Type 0} (test : X → Bool) (xs : List X) (x : X) → list_any test xs ≡ false → test x ≡ false → list_any test (xs ++ x ∷ []) ≡ false
-any-push test [] x h off = or_from (test x) false off refl
-any-push test (y ∷ xs) x h off =
-    let parts : (test y ≡ false) × (list_any test xs ≡ false) = or_parts (test y) (list_any test xs) h in
-    or_from (test y) (list_any test (xs ++ x ∷ [])) parts.0 (any-push test xs x parts.1 off)
-
 apart-push : (objects : List Object) (new : Object) → AreApart objects → has (sort_of new.node) new.name objects ≡ false → AreApart (objects ++ new ∷ [])
 apart-push [] new h off = (refl, tt)
 apart-push (o ∷ objects) new h off =
     let parts : (is_named (sort_of new.node) new.name o ≡ false) × (has (sort_of new.node) new.name objects ≡ false) = or_parts (is_named (sort_of new.node) new.name o) (has (sort_of new.node) new.name objects) off in
-    (any-push (is_named (sort_of o.node) o.name) objects new h.0 (named-sym o new ∙ parts.0), apart-push objects new h.1 parts.1)
-
-any-less : {X : Type 0} (test keep : X → Bool) (xs : List X) → list_any test xs ≡ false → list_any test (filter keep xs) ≡ false
-any-less test keep [] h = refl
-any-less test keep (x ∷ xs) h =
-    let parts : (test x ≡ false) × (list_any test xs ≡ false) = or_parts (test x) (list_any test xs) h in
-    elim (keep x) as (λ b. list_any test (cond b (x ∷ filter keep xs) (filter keep xs)) ≡ false) [
-      | true ↦ or_from (test x) (list_any test (filter keep xs)) parts.0 (any-less test keep xs parts.1)
-      | false ↦ any-less test keep xs parts.1
-    ]
+    (none-push (is_named (sort_of o.node) o.name) objects new h.0 (named-sym o new ∙ parts.0), apart-push objects new h.1 parts.1)
 
 apart-filter : (keep : Object → Bool) (objects : List Object) → AreApart objects → AreApart (filter keep objects)
 apart-filter keep [] h = tt
 apart-filter keep (o ∷ objects) h =
     elim (keep o) as (λ b. AreApart (cond b (o ∷ filter keep objects) (filter keep objects))) [
-      | true ↦ (any-less (is_named (sort_of o.node) o.name) keep objects h.0, apart-filter keep objects h.1)
+      | true ↦ (none-filter (is_named (sort_of o.node) o.name) keep objects h.0, apart-filter keep objects h.1)
       | false ↦ apart-filter keep objects h.1
     ]
 

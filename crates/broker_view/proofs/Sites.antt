@@ -11,6 +11,7 @@ use Rattle.std.proofs.lemmas.Map.Entries.{lookup-filter-keys}
 use Rattle.std.proofs.lemmas.Map.Views.{any-filter_same}
 use Rattle.route_core.specs.declared.binding.Binding.{Binding}
 use Rattle.route_core.specs.declared.object.Node.{Node}
+use Rattle.route_core.specs.declared.object.Node.TheVariants as nodes
 use Rattle.route_core.specs.declared.object.Object.{Object}
 use Rattle.route_core.specs.declared.object.Sort.{Sort}
 use Rattle.route_core.specs.declared.object.Sort.TheVariants as sorts
@@ -30,7 +31,7 @@ use Rattle.broker_view.proofs.Names.{same_text-true, same_text-refl}
 -- ---- lists
 
 -- each of those that stay has what each has, and passes the test
-filter-with : {X : Type 0} (P Q : X → Type 0) (test : X → Bool) → ((x : X) → P x → test x ≡ true → Q x) → (xs : List X) → All P xs → All Q (filter test xs)
+pub filter-with : {X : Type 0} (P Q : X → Type 0) (test : X → Bool) → ((x : X) → P x → test x ≡ true → Q x) → (xs : List X) → All P xs → All Q (filter test xs)
 filter-with P Q test step [] h = All-nil Q
 filter-with P Q test step (x ∷ xs) h =
     let rest : All Q (filter test xs) = filter-with P Q test step xs (All-tail P x xs h) in
@@ -56,13 +57,13 @@ none-pass test (x ∷ xs) h =
 
 -- what a binding leads to stands
 abbrev pub HaveEnds : Routing → Type 0
-HaveEnds r = All (λ b. has b.sort b.dest r.objects ≡ true) r.bindings
+HaveEnds r = All (λ (b : Binding). has b.sort b.dest r.objects ≡ true) r.bindings
 
 made-ends : (name : List ℕ) (node : Node) (r : Routing) → HaveEnds r → HaveEnds (made name node r)
 made-ends name node r h =
     elim (stands (sort_of node) name r) as (λ v. HaveEnds (if v then r else with_object name node r)) [
       | true ↦ h
-      | false ↦ All-weaker (λ (b : Binding). has b.sort b.dest r.objects ≡ true) (λ b. has b.sort b.dest (r.objects ++ object_named name node ∷ []) ≡ true)
+      | false ↦ All-weaker (λ (b : Binding). has b.sort b.dest r.objects ≡ true) (λ (b : Binding). has b.sort b.dest (r.objects ++ object_named name node ∷ []) ≡ true)
           (λ b k. list_any-append (is_named b.sort b.dest) r.objects (object_named name node ∷ []) ∙ or_left (has b.sort b.dest r.objects) (has b.sort b.dest (object_named name node ∷ [])) k) r.bindings h
     ]
 
@@ -79,8 +80,8 @@ not-true false h = refl
 gone-ends : (queue : List ℕ) (r : Routing) → HaveEnds r → HaveEnds (gone queue r)
 gone-ends queue r h =
     elim (has sorts.Queue queue r.objects) as (λ v. HaveEnds (if v then without_object sorts.Queue queue r else r)) [
-      | true ↦ filter-with (λ (b : Binding). has b.sort b.dest r.objects ≡ true) (λ b. has b.sort b.dest (filter (λ o. not (is_named sorts.Queue queue o)) r.objects) ≡ true) (λ b. not (ends_with sorts.Queue queue b))
-          (λ b k on. any-filter_same (is_named b.sort b.dest) (λ o. not (is_named sorts.Queue queue o)) true (λ o is. apart (sort_of o.node) b.sort o.name b.dest queue (not-true (same_sort b.sort sorts.Queue && bytes_eq b.dest queue) on) is) r.objects ∙ k) r.bindings h
+      | true ↦ filter-with (λ (b : Binding). has b.sort b.dest r.objects ≡ true) (λ (b : Binding). has b.sort b.dest (filter (λ (o : Object). not (is_named sorts.Queue queue o)) r.objects) ≡ true) (λ (b : Binding). not (ends_with sorts.Queue queue b))
+          (λ b k on. any-filter_same (is_named b.sort b.dest) (λ (o : Object). not (is_named sorts.Queue queue o)) true (λ o is. apart (sort_of o.node) b.sort o.name b.dest queue (not-true (same_sort b.sort sorts.Queue && bytes_eq b.dest queue) on) is) r.objects ∙ k) r.bindings h
       | false ↦ h
     ]
 
@@ -96,13 +97,13 @@ bound-ends b r h =
 unbound-ends : (b : Binding) (r : Routing) → HaveEnds r → HaveEnds (unbound b r)
 unbound-ends b r h =
     elim (has_binding b r.bindings) as (λ v. HaveEnds (if v then without_binding b r else r)) [
-      | true ↦ All-filter (λ other. not (is_same b other)) (λ (x : Binding). has x.sort x.dest r.objects ≡ true) r.bindings h
+      | true ↦ All-filter (λ (other : Binding). not (is_same b other)) (λ (x : Binding). has x.sort x.dest r.objects ≡ true) r.bindings h
       | false ↦ h
     ]
 
 site_at-ends : (s : Site) (e : Entry) → HaveEnds s.routing → HaveEnds (site_at s e).routing
-site_at-ends s (MadeQueue place queue options owner) h = made-ends queue _ s.routing h
-site_at-ends s (MadeExchange place exchange shape) h = made-ends exchange _ s.routing h
+site_at-ends s (MadeQueue place queue options owner) h = made-ends queue (nodes.Queue s.queues) s.routing h
+site_at-ends s (MadeExchange place exchange shape) h = made-ends exchange (nodes.Exchange shape.kind) s.routing h
 site_at-ends s (GoneQueue place queue) h = gone-ends queue s.routing h
 site_at-ends s (Bound place binding) h = bound-ends binding s.routing h
 site_at-ends s (Unbound place binding) h = unbound-ends binding s.routing h
@@ -127,9 +128,9 @@ leads-not queue objects sorts.Queue dest true e off on =
 -- a queue that isn't there takes nothing with it
 pub without-absent : (queue : List ℕ) (r : Routing) → HaveEnds r → has sorts.Queue queue r.objects ≡ false → without_object sorts.Queue queue r ≡ r
 without-absent queue r h off =
-    let objects : filter (λ o. not (is_named sorts.Queue queue o)) r.objects ≡ r.objects = filter-all (λ o. not (is_named sorts.Queue queue o)) r.objects (none-pass (is_named sorts.Queue queue) r.objects off) in
-    let bindings : filter (λ b. not (ends_with sorts.Queue queue b)) r.bindings ≡ r.bindings =
-        filter-all (λ b. not (ends_with sorts.Queue queue b)) r.bindings (All-weaker (λ (b : Binding). has b.sort b.dest r.objects ≡ true) (λ b. not (ends_with sorts.Queue queue b) ≡ true)
+    let objects : filter (λ (o : Object). not (is_named sorts.Queue queue o)) r.objects ≡ r.objects = filter-all (λ (o : Object). not (is_named sorts.Queue queue o)) r.objects (none-pass (is_named sorts.Queue queue) r.objects off) in
+    let bindings : filter (λ (b : Binding). not (ends_with sorts.Queue queue b)) r.bindings ≡ r.bindings =
+        filter-all (λ (b : Binding). not (ends_with sorts.Queue queue b)) r.bindings (All-weaker (λ (b : Binding). has b.sort b.dest r.objects ≡ true) (λ (b : Binding). not (ends_with sorts.Queue queue b) ≡ true)
         (λ b k. leads-not queue r.objects b.sort b.dest (same_sort b.sort sorts.Queue && bytes_eq b.dest queue) refl off k) r.bindings h) in
     λ i. record { objects = objects i; bindings = bindings i }
 
@@ -155,11 +156,11 @@ lookup-without other name es =
 pub routed-gone : (r : Routing) (queues : List Named) (exchanges : List NamedShape) (number : ℕ) (name : List ℕ) → AreRouted r queues exchanges number → AreRouted (without_object sorts.Queue name r) (filter (λ q. not (bytes_eq q.0 name)) queues) exchanges number
 routed-gone r queues exchanges number name h = record {
   queue_names = λ other.
-      any-filter_same (is_named sorts.Queue other) (λ o. not (is_named sorts.Queue name o)) (not (bytes_eq other name)) (λ o is. named-same (sort_of o.node) o.name other name is) r.objects
+      any-filter_same (is_named sorts.Queue other) (λ (o : Object). not (is_named sorts.Queue name o)) (not (bytes_eq other name)) (λ o is. named-same (sort_of o.node) o.name other name is) r.objects
       ∙ both-by (not (bytes_eq other name)) (has sorts.Queue other r.objects) (queue_of other queues) (h.queue_names other)
       ∙ ap is_some (sym (lookup-without other name queues));
   exchange_names = λ other.
-      any-filter_same (is_named sorts.Exchange other) (λ o. not (is_named sorts.Queue name o)) true (λ o is. exchange-stays (sort_of o.node) o.name other name is) r.objects
+      any-filter_same (is_named sorts.Exchange other) (λ (o : Object). not (is_named sorts.Queue name o)) true (λ o is. exchange-stays (sort_of o.node) o.name other name is) r.objects
       ∙ h.exchange_names other;
-  numbers = All-filter (λ o. not (is_named sorts.Queue name o)) (λ (o : Object). rises (number_of o.node) (Some number) ≡ true) r.objects h.numbers;
+  numbers = All-filter (λ (o : Object). not (is_named sorts.Queue name o)) (λ (o : Object). rises (number_of o.node) (Some number) ≡ true) r.objects h.numbers;
 }

@@ -47,32 +47,32 @@ none-from f (Some a) h = absurd (true≢false (ap is_some h))
 
 -- ---- distinct names
 
+pub none-push : {X : Type 0} (test : X → Bool) (xs : List X) (x : X) → list_any test xs ≡ false → test x ≡ false → list_any test (xs ++ x ∷ []) ≡ false
+none-push test [] x h off = or_from (test x) false off refl
+none-push test (y ∷ xs) x h off =
+    let parts : (test y ≡ false) × (list_any test xs ≡ false) = or_parts (test y) (list_any test xs) h in
+    or_from (test y) (list_any test (xs ++ x ∷ [])) parts.0 (none-push test xs x parts.1 off)
+
+pub none-filter : {X : Type 0} (test keep : X → Bool) (xs : List X) → list_any test xs ≡ false → list_any test (filter keep xs) ≡ false
+none-filter test keep [] h = refl
+none-filter test keep (x ∷ xs) h =
+    let parts : (test x ≡ false) × (list_any test xs ≡ false) = or_parts (test x) (list_any test xs) h in
+    elim (keep x) as (λ b. list_any test (cond b (x ∷ filter keep xs) (filter keep xs)) ≡ false) [
+      | true ↦ or_from (test x) (list_any test (filter keep xs)) parts.0 (none-filter test keep xs parts.1)
+      | false ↦ none-filter test keep xs parts.1
+    ]
+
 pub distinct-push : (ns : List (List ℕ)) (n : List ℕ) → AreDistinct ns → list_any (same_text n) ns ≡ false → AreDistinct (ns ++ n ∷ [])
 distinct-push [] n h off = (refl, tt)
 distinct-push (m ∷ ns) n h off =
     let parts : (same_text n m ≡ false) × (list_any (same_text n) ns ≡ false) = or_parts (same_text n m) (list_any (same_text n) ns) off in
-    (any-push ns (same_text-sym m n ∙ parts.0) h.0, distinct-push ns n h.1 parts.1)
-  where
-    any-push : (ks : List (List ℕ)) → same_text m n ≡ false → list_any (same_text m) ks ≡ false → list_any (same_text m) (ks ++ n ∷ []) ≡ false
-    any-push [] e k = or_from (same_text m n) false e refl
-    any-push (x ∷ ks) e k =
-        let p : (same_text m x ≡ false) × (list_any (same_text m) ks ≡ false) = or_parts (same_text m x) (list_any (same_text m) ks) k in
-        or_from (same_text m x) (list_any (same_text m) (ks ++ n ∷ [])) p.0 (any-push ks e p.1)
-
-any-less : {X : Type 0} (test keep : X → Bool) (xs : List X) → list_any test xs ≡ false → list_any test (filter keep xs) ≡ false
-any-less test keep [] h = refl
-any-less test keep (x ∷ xs) h =
-    let parts : (test x ≡ false) × (list_any test xs ≡ false) = or_parts (test x) (list_any test xs) h in
-    elim (keep x) as (λ b. list_any test (cond b (x ∷ filter keep xs) (filter keep xs)) ≡ false) [
-      | true ↦ or_from (test x) (list_any test (filter keep xs)) parts.0 (any-less test keep xs parts.1)
-      | false ↦ any-less test keep xs parts.1
-    ]
+    (none-push (same_text m) ns n h.0 (same_text-sym m n ∙ parts.0), distinct-push ns n h.1 parts.1)
 
 pub distinct-filter : (keep : List ℕ → Bool) (ns : List (List ℕ)) → AreDistinct ns → AreDistinct (filter keep ns)
 distinct-filter keep [] h = tt
 distinct-filter keep (n ∷ ns) h =
     elim (keep n) as (λ b. AreDistinct (cond b (n ∷ filter keep ns) (filter keep ns))) [
-      | true ↦ (any-less (same_text n) keep ns h.0, distinct-filter keep ns h.1)
+      | true ↦ (none-filter (same_text n) keep ns h.0, distinct-filter keep ns h.1)
       | false ↦ distinct-filter keep ns h.1
     ]
 

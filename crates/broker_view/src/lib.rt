@@ -2,6 +2,8 @@
 #![tactic(auto)]
 
 mod laws_configured;
+mod laws_counted;
+mod laws_reached;
 
 ghost use Rattle.std.specs.Prelude.{◌≡◌, List, ℕ};
 ghost use Rattle.fed_journal.specs.declared.place.Place.{Place};
