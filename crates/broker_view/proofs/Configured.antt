@@ -1,11 +1,9 @@
 -- What stands in a virtual host follows the journal.
-use Rattle.std.proofs.Common.{◌≡◌, ℕ, ◌+◌, List, [], ◌∷◌, ◌++◌, Bool, true, false, cond, not, Option, Some, None, is_some, refl, sym, ap, subst, ◌∙◌, map}
+use Rattle.std.proofs.Common.{◌≡◌, ℕ, ◌+◌, List, [], ◌∷◌, ◌++◌, Bool, true, false, cond, not, Option, Some, None, refl, sym, ap, subst, ◌∙◌, map}
 use Rattle.std.specs.Prelude.{All, filter, if◌then◌else◌, ◌&&◌}
 use Rattle.std.specs.Option.{option_map, option_and_then, option_or}
 use Rattle.std.specs.Str.{bytes_eq}
-use Rattle.std.proofs.lemmas.Bool.{true≢false, false≢true}
 use Rattle.std.proofs.lemmas.List.Sums.{fold-append}
-use Rattle.queue_core.specs.declared.rows.Holder.{Holder}
 use Rattle.amqp_props.specs.declared.link.QueueOptions.{QueueOptions}
 use Rattle.route_core.specs.declared.binding.Binding.{Binding}
 use Rattle.route_core.specs.declared.object.Node.{Node}
@@ -40,7 +38,7 @@ use Rattle.mini_broker.specs.Record.{holder_as}
 use Rattle.broker_view.specs.View.{IsConfigured, AreDistinct}
 use Rattle.broker_view.specs.Suits.{Suits}
 use Rattle.broker_view.specs.Recorded.{recorded, session_holder}
-use Rattle.broker_view.proofs.Names.{same_text-true, same_text-refl, same_text-sym, same_place-true}
+use Rattle.broker_view.proofs.Names.{same_text-true, same_text-sym, same_place-true}
 use Rattle.broker_view.proofs.Tables.{map-push, lookup-other, lookup-new, none-from, names-filter, distinct-push, distinct-filter, absent-any, plain, same-names, same-options, same-owner, same-some, plain-changed, plain-all, plain-entered, plain-freed}
 use Rattle.broker_view.proofs.Sites.{HaveEnds, site-ends, without-absent, lookup-without, routed-gone}
 use Rattle.broker_view.proofs.Routed.{routed-queue, routed-exchange, free-queue, free-exchange, not-declared}

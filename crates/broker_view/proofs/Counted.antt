@@ -1,6 +1,6 @@
 -- No copy has a number beyond the count of the copies.
-use Rattle.std.proofs.Common.{◌≡◌, ℕ, zero, suc, ◌+◌, ◌-◌, ◌<◌, ◌≤◌, ◌==◌, List, [], ◌∷◌, ◌++◌, length, Bool, true, false, cond, not, Option, Some, None, arith, refl, sym, ap, subst, ◌∙◌, map}
-use Rattle.std.specs.Prelude.{All, filter, if◌then◌else◌, ◌&&◌, nat_le, nat_lt}
+use Rattle.std.proofs.Common.{◌≡◌, ℕ, ◌+◌, ◌-◌, ◌<◌, ◌≤◌, ◌==◌, List, [], ◌∷◌, ◌++◌, length, Bool, true, false, cond, not, Some, None, arith, refl, sym, ap, subst, ◌∙◌}
+use Rattle.std.specs.Prelude.{if◌then◌else◌, nat_le, nat_lt}
 use Rattle.std.specs.Str.{bytes_eq}
 use Rattle.std.proofs.lemmas.Bool.{and_parts, leb-true, ltb-true}
 use Rattle.std.proofs.lemmas.Option.{none-some}
@@ -22,7 +22,7 @@ use Rattle.fed_journal.specs.Routes.{bound, unbound}
 use Rattle.mini_broker.specs.declared.mailbox.CopyMessage.{CopyMessage}
 use Rattle.mini_broker.specs.declared.mailbox.Sweep.TheVariants as sweeps
 use Rattle.mini_broker.specs.declared.standing.StandingQueue.{StandingQueue}
-use Rattle.mini_broker.specs.Mail.{Mail, entered, fresh, as_seen, handed, left, given, released, released_from, held_copies, purged, stored, swept}
+use Rattle.mini_broker.specs.Mail.{Mail, entered, fresh, as_seen, handed, left, given, released, released_from, purged, swept}
 use Rattle.mini_broker.specs.Queues.{Named, changed, all_changed, with_mail, IsLast, AreAbove}
 use Rattle.mini_broker.specs.State.{VhostState}
 use Rattle.mini_broker.specs.Declare.{with_queue, with_exchange, made_queue}

@@ -1,6 +1,6 @@
 -- What a place's router knows.
-use Rattle.std.proofs.Common.{◌≡◌, ℕ, ◌+◌, List, [], ◌∷◌, ◌++◌, Bool, true, false, cond, not, Option, Some, None, is_some, refl, sym, ap, subst, ◌∙◌, map}
-use Rattle.std.specs.Prelude.{All, filter, fold, if◌then◌else◌, ◌||◌, ◌&&◌}
+use Rattle.std.proofs.Common.{◌≡◌, ℕ, List, [], ◌∷◌, ◌++◌, Bool, true, false, cond, not, Option, Some, None, is_some, refl, sym, ap, ◌∙◌}
+use Rattle.std.specs.Prelude.{All, filter, fold, if◌then◌else◌, ◌&&◌}
 use Rattle.std.specs.List.{list_any}
 use Rattle.std.specs.Map.{lookup}
 use Rattle.std.specs.Str.{bytes_eq}
@@ -21,12 +21,11 @@ use Rattle.route_core.specs.Routing.{Routing, stands, with_object, without_objec
 use Rattle.fed_journal.specs.declared.place.Place.{Place}
 use Rattle.fed_journal.specs.declared.entry.Entry.{Entry}
 use Rattle.fed_journal.specs.declared.entry.Entry.TheVariants.{MadeQueue, MadeExchange, GoneQueue, Bound, Unbound}
-use Rattle.fed_journal.specs.Names.{same_text}
 use Rattle.fed_journal.specs.Routes.{Site, first_site, site, site_at, site_step, is_at, made, gone, bound, unbound, has_ends}
 use Rattle.mini_broker.specs.Exchanges.{NamedShape}
 use Rattle.mini_broker.specs.Queues.{Named, queue_of}
 use Rattle.mini_broker.specs.State.{AreRouted}
-use Rattle.broker_view.proofs.Names.{same_text-true, same_text-refl}
+use Rattle.broker_view.proofs.Names.{same_text-true}
 
 -- ---- lists
 
@@ -130,8 +129,8 @@ pub without-absent : (queue : List ℕ) (r : Routing) → HaveEnds r → has sor
 without-absent queue r h off =
     let objects : filter (λ (o : Object). not (is_named sorts.Queue queue o)) r.objects ≡ r.objects = filter-all (λ (o : Object). not (is_named sorts.Queue queue o)) r.objects (none-pass (is_named sorts.Queue queue) r.objects off) in
     let bindings : filter (λ (b : Binding). not (ends_with sorts.Queue queue b)) r.bindings ≡ r.bindings =
-        filter-all (λ (b : Binding). not (ends_with sorts.Queue queue b)) r.bindings (All-weaker (λ (b : Binding). has b.sort b.dest r.objects ≡ true) (λ (b : Binding). not (ends_with sorts.Queue queue b) ≡ true)
-        (λ b k. leads-not queue r.objects b.sort b.dest (same_sort b.sort sorts.Queue && bytes_eq b.dest queue) refl off k) r.bindings h) in
+    filter-all (λ (b : Binding). not (ends_with sorts.Queue queue b)) r.bindings (All-weaker (λ (b : Binding). has b.sort b.dest r.objects ≡ true) (λ (b : Binding). not (ends_with sorts.Queue queue b) ≡ true)
+    (λ b k. leads-not queue r.objects b.sort b.dest (same_sort b.sort sorts.Queue && bytes_eq b.dest queue) refl off k) r.bindings h) in
     λ i. record { objects = objects i; bindings = bindings i }
 
 -- ---- a queue is gone

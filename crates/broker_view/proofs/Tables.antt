@@ -1,12 +1,11 @@
 -- Queues and exchanges under their names.
-use Rattle.std.proofs.Common.{◌≡◌, ℕ, ◌+◌, List, [], ◌∷◌, ◌++◌, Bool, true, false, cond, not, Option, Some, None, is_some, refl, sym, ap, subst, ◌∙◌, map}
-use Rattle.std.specs.Prelude.{filter, ◌||◌, ◌==◌}
+use Rattle.std.proofs.Common.{◌≡◌, ℕ, ◌+◌, List, [], ◌∷◌, ◌++◌, Bool, true, false, cond, Option, Some, None, is_some, refl, sym, ap, ◌∙◌, map}
+use Rattle.std.specs.Prelude.{filter, ◌==◌}
 use Rattle.std.specs.List.{list_any}
 use Rattle.std.specs.Map.{lookup}
 use Rattle.std.specs.Option.{option_map, option_and_then}
 use Rattle.std.specs.Str.{bytes_eq}
-use Rattle.std.proofs.lemmas.Bool.{true≢false, false≢true, or_parts, or_from}
-use Rattle.std.proofs.lemmas.List.Elements.{All-nil, All-cons, All-head, All-tail}
+use Rattle.std.proofs.lemmas.Bool.{true≢false, or_parts, or_from}
 use Rattle.std.proofs.lemmas.Map.Made.{lookup-map_values, is_some-lookup}
 use Rattle.amqp_props.specs.declared.link.QueueOptions.{QueueOptions}
 use Rattle.amqp_props.specs.declared.message.Message.{Message}
@@ -18,7 +17,7 @@ use Rattle.mini_broker.specs.Queues.{Named, queue_of, changed, all_changed, with
 use Rattle.mini_broker.specs.Publish.{all_entered}
 use Rattle.mini_broker.specs.Close.{freed_from}
 use Rattle.broker_view.specs.View.{AreDistinct}
-use Rattle.broker_view.proofs.Names.{same_text-true, same_text-refl, same_text-sym}
+use Rattle.broker_view.proofs.Names.{same_text-sym}
 
 -- ---- tables
 
@@ -156,6 +155,6 @@ plain-freed connection number [] queues = refl
 plain-freed connection number (client ∷ clients) queues =
     plain-freed connection (number + 1) clients _
     ∙ elim (client.connection == connection) as (λ b. plain (cond b (all_changed (with_mail (released_from number)) queues) queues) ≡ plain queues) [
-        | true ↦ plain-all (released_from number) queues
-        | false ↦ refl
-      ]
+      | true ↦ plain-all (released_from number) queues
+      | false ↦ refl
+    ]
