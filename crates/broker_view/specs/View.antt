@@ -23,7 +23,7 @@ use Rattle.mini_broker.specs.Exchanges.{shape_of}
 use Rattle.mini_broker.specs.Consume.{consumer_of}
 use Rattle.mini_broker.specs.State.{VhostState, AreRouted}
 
--- each name once
+-- each name stands once (AMQP 0-9-1, 3.1.1 "The Message Queue")
 abbrev pub AreDistinct : List (List ℕ) → Type 0
 AreDistinct [] = Unit {0}
 AreDistinct (q ∷ qs) = (list_any (same_text q) qs ≡ false) × AreDistinct qs
@@ -33,6 +33,7 @@ pub record IsConfigured (J : List Entry) (p : Place) (v : VhostState) : Type 0 w
   pub options : (q : List ℕ) → option_map (λ s. s.options) (queue_of q v.queues) ≡ queue_options J p q
   pub owners : (q : List ℕ) → option_and_then (λ s. s.owner) (queue_of q v.queues) ≡ queue_owner J p q
   pub names : map (λ q. q.0) v.queues ≡ queues_of J p
+  pub distinct : AreDistinct (map (λ q. q.0) v.queues)
   pub shapes : (x : List ℕ) → shape_of x v.exchanges ≡ exchange_shape J p x
   pub routing : v.routing ≡ (site J p).routing
   pub made : v.made ≡ (site J p).queues

@@ -3,3 +3,6 @@
 
 pub mod host;
 mod laws;
+mod laws_configured;
+mod laws_counted;
+mod laws_reached;
