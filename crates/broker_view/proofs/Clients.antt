@@ -6,7 +6,7 @@ use Rattle.queue_core.specs.declared.rows.Holder.{Holder}
 use Rattle.fed_journal.specs.declared.place.Place.{Place}
 use Rattle.fed_journal.specs.declared.place.Client.{Client}
 use Rattle.fed_journal.specs.declared.entry.Entry.{Entry}
-use Rattle.fed_journal.specs.declared.entry.Entry.TheVariants.{MadeQueue, MadeExchange, GoneQueue, Bound, Unbound, Published, Flushed, Took, Settled, Consumed, Cancelled, Delivered, Acked, Rejected, Requeued, Purged, Closed}
+use Rattle.fed_journal.specs.declared.entry.Entry.TheVariants.{MadeQueue, MadeExchange, GoneQueue, Bound, Unbound, Published, Flushed, Consumed, Cancelled, Delivered, Purged, Closed}
 use Rattle.fed_journal.specs.Names.{same_text, same_place}
 use Rattle.fed_journal.specs.Holders.{same_client}
 use Rattle.fed_journal.specs.Routes.{bound, unbound}
@@ -18,7 +18,7 @@ use Rattle.mini_broker.specs.State.{VhostState}
 use Rattle.mini_broker.specs.Declare.{with_queue, with_exchange}
 use Rattle.mini_broker.specs.Bind.{with_routing}
 use Rattle.mini_broker.specs.Consume.{registered, client_number, new_consumer, with_consumer, without_consumer}
-use Rattle.mini_broker.specs.Settle.{left_as, released_as, settled, requeued, with_purged, all_swept, number_in}
+use Rattle.mini_broker.specs.Settle.{with_purged, all_swept}
 use Rattle.mini_broker.specs.Close.{disconnected, without_queue}
 use Rattle.mini_broker.specs.Record.{with_entered, with_handed}
 use Rattle.broker_view.specs.Recorded.{recorded}
@@ -38,14 +38,6 @@ same-clients v = record { clients = refl; consumers = refl; begun = refl }
 same-if : (b : Bool) (w v : VhostState) → SameClients v w → SameClients v (cond b w v)
 same-if true w v h = h
 same-if false w v h = same-clients v
-
-same-left : (number : Option ℕ) (copy : ℕ) (v : VhostState) → SameClients v (left_as number copy v)
-same-left None copy v = same-clients v
-same-left (Some number) copy v = record { clients = refl; consumers = refl; begun = refl }
-
-same-released : (number : Option ℕ) (copy : ℕ) (v : VhostState) → SameClients v (released_as number copy v)
-same-released None copy v = same-clients v
-same-released (Some number) copy v = record { clients = refl; consumers = refl; begun = refl }
 
 -- entries that begin and end no consumer, and hand no copy to a client
 abbrev pub IsPlain : Entry → Type 0
@@ -74,12 +66,6 @@ plain-same n p (Published x) v plain =
     same-if (same_place x.place p) (with_entered x.queues x.first x.message v) v (record { clients = refl; consumers = refl; begun = refl })
 plain-same n p (Flushed broker) v plain =
     same-if (same_text broker p.broker) (all_swept sweeps.Store v) v (record { clients = refl; consumers = refl; begun = refl })
-plain-same n p (Acked place client copy) v plain =
-    same-if (same_place place p) (settled client copy v) v (same-left (number_in client v) copy v)
-plain-same n p (Rejected place client copy) v plain =
-    same-if (same_place place p) (settled client copy v) v (same-left (number_in client v) copy v)
-plain-same n p (Requeued place client copy) v plain =
-    same-if (same_place place p) (requeued client copy v) v (same-released (number_in client v) copy v)
 plain-same n p (Purged place queue) v plain =
     same-if (same_place place p) (with_purged queue v) v (record { clients = refl; consumers = refl; begun = refl })
 plain-same n p _ v plain = record { clients = refl; consumers = refl; begun = refl }

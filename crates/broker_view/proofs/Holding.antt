@@ -261,3 +261,12 @@ counts-as J p v k t consumer c (holders.Channel place client tag) r consumers is
     ∙ ap (λ b. (beq false b && (consumer.holder.number == r.number)) && (consumer.holder.part == r.part)) h.client'
     ∙ counts-by J p v k t consumer c place client tag r (same_client client k) refl at is h
     ∙ sym (ap (λ b. ((b && same_client client k) && same_text tag t) && list_any (λ n. n == c) (journal.handed_since J p k t)) (ap (λ a. same_place a p) h.here ∙ same_place-refl p))
+
+-- ---- as the laws state them
+
+not-handed : (e : Entry) (c : ℕ) → ((place : Place) (client : Client) (tag queue : List ℕ) (no_ack : Bool) → e ≡ Delivered place client tag queue c no_ack → ⊥) → NotHanded e c
+not-handed (Delivered place client tag queue copy no_ack) c h = λ same. h place client tag queue no_ack (ap (λ n. Delivered place client tag queue n no_ack) same)
+not-handed _ c h = tt
+
+pub holder-kept : (n : ℕ) (J : List Entry) (p : Place) (e : Entry) (v : VhostState) (c : ℕ) (h : holders.Holder) (r : Holder) → HasConsumers J p v → Suits J e → ((place : Place) (client : Client) (tag queue : List ℕ) (no_ack : Bool) → e ≡ Delivered place client tag queue c no_ack → ⊥) → IsHolder J p v c h r → IsHolder (J ++ e ∷ []) p (recorded n p e v) c h r
+holder-kept n J p e v c h r consumers suits other = holder-step n J p e v c h r consumers suits (not-handed e c other)

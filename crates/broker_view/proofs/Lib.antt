@@ -1,0 +1,5 @@
+pub mod Alike
+pub mod Clients
+pub mod Consuming
+pub mod Finds
+pub mod Holding

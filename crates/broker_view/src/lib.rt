@@ -1,6 +1,8 @@
 //! What brokers hold after a journal.
 #![tactic(auto)]
 
+mod laws_consuming;
+
 ghost use Rattle.std.specs.Prelude.{◌≡◌, List, ℕ};
 ghost use Rattle.fed_journal.specs.declared.place.Place.{Place};
 ghost use Rattle.fed_journal.specs.declared.entry.Entry.{Entry};
