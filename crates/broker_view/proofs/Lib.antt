@@ -1,11 +1,16 @@
+pub mod Alike
+pub mod Clients
 pub mod Configured
+pub mod Consuming
 pub mod Copies
 pub mod CopiesStep
 pub mod CopySteps
 pub mod Counted
 pub mod EnteredRows
+pub mod Finds
 pub mod FreedRows
 pub mod HeldHome
+pub mod Holding
 pub mod Matching
 pub mod Names
 pub mod Publications
@@ -16,3 +21,4 @@ pub mod Reached
 pub mod Routed
 pub mod Sites
 pub mod Tables
+pub mod ViewStep

@@ -4,5 +4,6 @@
 pub mod host;
 mod laws;
 mod laws_configured;
+mod laws_consuming;
 mod laws_counted;
 mod laws_reached;
