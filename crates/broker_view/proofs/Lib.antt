@@ -9,6 +9,7 @@ pub mod Counted
 pub mod EnteredRows
 pub mod Finds
 pub mod FreedRows
+pub mod HeldBy
 pub mod HeldHome
 pub mod Holding
 pub mod Matching

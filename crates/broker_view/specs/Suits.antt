@@ -1,5 +1,5 @@
 -- What an entry needs in the journal before it.
-use Rattle.std.specs.Prelude.{◌≡◌, ◌+◌, ℕ, List, [], true, false, None, Some}
+use Rattle.std.specs.Prelude.{◌≡◌, ◌+◌, ℕ, List, [], ◌∷◌, ◌++◌, true, false, None, Some}
 use Rattle.std.specs.Str.{bytes_eq}
 use Rattle.fed_journal.specs.declared.entry.Entry.{Entry}
 use Rattle.fed_journal.specs.declared.entry.Entry.TheVariants.{MadeQueue, MadeExchange, Published, Took, Consumed, Delivered, Acked, Rejected, Requeued}
@@ -22,3 +22,8 @@ Suits J (Acked place client copy) = is_held_by J place client copy ≡ true
 Suits J (Rejected place client copy) = is_held_by J place client copy ≡ true
 Suits J (Requeued place client copy) = is_held_by J place client copy ≡ true
 Suits J _ = Unit {0}
+
+-- one entry after another
+abbrev pub EachSuits : List Entry → List Entry → Type 0
+EachSuits J [] = Unit {0}
+EachSuits J (e ∷ es) = Suits J e × EachSuits (J ++ e ∷ []) es
