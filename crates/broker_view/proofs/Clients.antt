@@ -1,14 +1,12 @@
 -- What entries do to the clients and consumers of a virtual host.
-use Rattle.std.proofs.Common.{◌≡◌, ℕ, ◌+◌, ◌<◌, ◌≤◌, Bool, true, false, cond, List, [], ◌∷◌, ◌++◌, Option, Some, None, position, length, unwrap_or, refl, sym, ap, subst, ◌∙◌, arith}
+use Rattle.std.proofs.Common.{◌≡◌, ℕ, ◌≤◌, Bool, true, false, cond, List, [], ◌∷◌, ◌++◌, Option, Some, position, length, refl, sym, ap, ◌∙◌, arith}
 use Rattle.std.specs.List.{list_any}
 use Rattle.std.proofs.lemmas.List.Quantifiers.{position-Some}
-use Rattle.queue_core.specs.declared.rows.Holder.{Holder}
 use Rattle.fed_journal.specs.declared.place.Place.{Place}
 use Rattle.fed_journal.specs.declared.place.Client.{Client}
 use Rattle.fed_journal.specs.declared.entry.Entry.{Entry}
 use Rattle.fed_journal.specs.declared.entry.Entry.TheVariants.{MadeQueue, MadeExchange, GoneQueue, Bound, Unbound, Published, Flushed, Consumed, Cancelled, Delivered, Purged, Closed}
 use Rattle.fed_journal.specs.Names.{same_text, same_place}
-use Rattle.fed_journal.specs.Holders.{same_client}
 use Rattle.fed_journal.specs.Routes.{bound, unbound}
 use Rattle.fed_journal.specs.Consumers as journal
 use Rattle.mini_broker.specs.declared.consumer.Consumer.{Consumer}

@@ -1,13 +1,12 @@
 -- Who consumes in a virtual host is who consumes by the journal.
-use Rattle.std.proofs.Common.{◌≡◌, ℕ, ◌+◌, ◌<◌, ◌≤◌, ◌==◌, Bool, true, false, cond, not, ◌&&◌, ◌||◌, List, [], ◌∷◌, ◌++◌, Option, Some, None, All, filter, find, position, fold, refl, sym, ap, subst, ◌∙◌, arith}
+use Rattle.std.proofs.Common.{◌≡◌, ℕ, ◌+◌, ◌<◌, ◌≤◌, ◌==◌, Bool, true, false, cond, not, ◌&&◌, List, [], ◌∷◌, ◌++◌, Option, Some, None, All, filter, find, refl, sym, ap, subst, ◌∙◌, arith}
 use Rattle.std.specs.List.{list_any}
 use Rattle.std.specs.Option.{option_map, option_or}
 use Rattle.std.proofs.lemmas.Bool.{true≢false, and_parts, and_from, or_parts, or_from, false_from_ne_true}
 use Rattle.std.proofs.lemmas.Option.{none-some}
-use Rattle.std.proofs.lemmas.List.Elements.{All-nil, All-cons, All-head, All-tail, All-push, All-filter, All-weaker}
+use Rattle.std.proofs.lemmas.List.Elements.{All-nil, All-head, All-tail, All-push, All-filter, All-weaker}
 use Rattle.std.proofs.lemmas.List.Folds.{find-append}
 use Rattle.std.proofs.lemmas.List.Sums.{fold-append}
-use Rattle.queue_core.specs.declared.rows.Holder.{Holder}
 use Rattle.fed_journal.specs.declared.place.Place.{Place}
 use Rattle.fed_journal.specs.declared.place.Client.{Client}
 use Rattle.fed_journal.specs.declared.entry.Entry.{Entry}
@@ -18,15 +17,16 @@ use Rattle.fed_journal.specs.Consumers as journal
 use Rattle.mini_broker.specs.declared.consumer.Consumer.{Consumer}
 use Rattle.mini_broker.specs.Consumers.{is_client, is_consumer}
 use Rattle.mini_broker.specs.State.{VhostState}
-use Rattle.mini_broker.specs.Consume.{consumer_of, registered, client_number, new_consumer, with_consumer, without_consumer}
+use Rattle.mini_broker.specs.Consume.{new_consumer, with_consumer, without_consumer}
 use Rattle.mini_broker.specs.Close.{is_on, consumes_from, disconnected, without_queue}
 use Rattle.mini_broker.specs.Record.{with_handed}
 use Rattle.broker_view.specs.Recorded.{recorded}
 use Rattle.broker_view.specs.Suits.{Suits}
 use Rattle.broker_view.specs.View.{asked, AreSingle, Rise, IsNumbered, HasConsumers}
-use Rattle.broker_view.proofs.Alike.{same_text-true, same_text-refl, same_text-turned, same_place-true, same_client-true, same_client-refl, same_client-turned}
+use Rattle.broker_view.proofs.Names.{same_text-true, same_text-refl, same_text-sym, same_place-true}
+use Rattle.broker_view.proofs.Alike.{same_client-true, same_client-refl, same_client-turned}
 use Rattle.broker_view.proofs.Finds.{find-any, any-all, any-filter, found-passes, Once, unless_it, find-filtered}
-use Rattle.broker_view.proofs.Clients.{SameClients, same-clients, IsPlain, plain-same, plain-consumer, Grows, same-grows, recorded-grows, numbered-grown, registered-number}
+use Rattle.broker_view.proofs.Clients.{SameClients, same-clients, plain-same, plain-consumer, Grows, same-grows, recorded-grows, numbered-grown, registered-number}
 
 -- ---- consumers by their client and tag
 
@@ -48,8 +48,8 @@ pub single-once : (k : Client) (t : List ℕ) (consumers : List Consumer) → Ar
 single-once k t [] single = tt
 single-once k t (consumer ∷ consumers) single = (
   λ on.
-    let same : (consumer.client ≡ k) × (consumer.tag ≡ t) = consumer-same k t consumer on in
-    ap (λ client. list_any (is_consumer client t) consumers) (sym same.0) ∙ ap (λ tag. list_any (is_consumer consumer.client tag) consumers) (sym same.1) ∙ single.0,
+      let same : (consumer.client ≡ k) × (consumer.tag ≡ t) = consumer-same k t consumer on in
+      ap (λ client. list_any (is_consumer client t) consumers) (sym same.0) ∙ ap (λ tag. list_any (is_consumer consumer.client tag) consumers) (sym same.1) ∙ single.0,
   single-once k t consumers single.1,
 )
 
@@ -126,8 +126,8 @@ ended-of : (J : List Entry) (p : Place) (v : VhostState) (q : Consumer → Bool)
 ended-of J p v q k t b h told =
     ap (option_map asked) (find-filtered (is_consumer k t) q v.consumers (single-once k t v.consumers h.single))
     ∙ ended q (find (is_consumer k t) v.consumers) b (λ consumer is.
-        let same : (consumer.client ≡ k) × (consumer.tag ≡ t) = consumer-same k t consumer (found-passes (is_consumer k t) v.consumers consumer is) in
-        told consumer same.0 same.1)
+    let same : (consumer.client ≡ k) × (consumer.tag ≡ t) = consumer-same k t consumer (found-passes (is_consumer k t) v.consumers consumer is) in
+    told consumer same.0 same.1)
     ∙ ap (cond b None) (h.consumers k t)
 
 from-queue : (queue : List ℕ) (o : Option Consumer) → option_map asked (unless_it (consumes_from queue) o) ≡ cond (journal.is_from queue (option_map asked o)) None (option_map asked o)
@@ -145,31 +145,31 @@ is_same-here p place k client t tag b h = ap (λ here. (here && same_client clie
 cancelled : (J : List Entry) (p place : Place) (client : Client) (tag : List ℕ) (v : VhostState) (b : Bool) → same_place place p ≡ b → HasConsumers J p v → HasConsumers (J ++ Cancelled place client tag ∷ []) p (cond b (without_consumer client tag v) v)
 cancelled J p place client tag v true here h =
     fewer (J ++ Cancelled place client tag ∷ []) J p v (without_consumer client tag v) (λ consumer. not (is_consumer client tag consumer)) h (record { clients = λ k i at. at; begun = omega arith }) refl (λ k t.
-      ended-of J p v (is_consumer client tag) k t (same_client client k && same_text tag t) h (λ consumer same_k same_t.
-        ap (λ c. same_client c client && same_text consumer.tag tag) same_k ∙ ap (λ x. same_client k client && same_text x tag) same_t
-        ∙ ap (λ c. c && same_text t tag) (same_client-turned k client) ∙ ap (λ x. same_client client k && x) (same_text-turned t tag))
-      ∙ sym (ap (λ c. cond c None (journal.consumer J p k t)) (is_same-here p place k client t tag true here))
-      ∙ sym (consumer-push J (Cancelled place client tag) p k t))
+    ended-of J p v (is_consumer client tag) k t (same_client client k && same_text tag t) h (λ consumer same_k same_t.
+    ap (λ c. same_client c client && same_text consumer.tag tag) same_k ∙ ap (λ x. same_client k client && same_text x tag) same_t
+    ∙ ap (λ c. c && same_text t tag) (same_client-turned k client) ∙ ap (λ x. same_client client k && x) (same_text-sym t tag))
+    ∙ sym (ap (λ c. cond c None (journal.consumer J p k t)) (is_same-here p place k client t tag true here))
+    ∙ sym (consumer-push J (Cancelled place client tag) p k t))
 cancelled J p place client tag v false away h =
     elsewhere J p (Cancelled place client tag) v h (λ k t. ap (λ c. cond c None (journal.consumer J p k t)) (is_same-here p place k client t tag false away))
 
 closed : (J : List Entry) (p place : Place) (connection : ℕ) (v : VhostState) (b : Bool) → same_place place p ≡ b → HasConsumers J p v → HasConsumers (J ++ Closed place connection ∷ []) p (cond b (disconnected connection v) v)
 closed J p place connection v true here h =
     fewer (J ++ Closed place connection ∷ []) J p v (disconnected connection v) (λ consumer. not (is_on connection consumer)) h (record { clients = λ k i at. at; begun = omega arith }) refl (λ k t.
-      ended-of J p v (is_on connection) k t (k.connection == connection) h (λ consumer same_k same_t. ap (λ c. c.connection == connection) same_k)
-      ∙ sym (ap (λ c. cond (c && k.connection == connection) None (journal.consumer J p k t)) here)
-      ∙ sym (consumer-push J (Closed place connection) p k t))
+    ended-of J p v (is_on connection) k t (k.connection == connection) h (λ consumer same_k same_t. ap (λ c. c.connection == connection) same_k)
+    ∙ sym (ap (λ c. cond (c && k.connection == connection) None (journal.consumer J p k t)) here)
+    ∙ sym (consumer-push J (Closed place connection) p k t))
 closed J p place connection v false away h =
     elsewhere J p (Closed place connection) v h (λ k t. ap (λ c. cond (c && k.connection == connection) None (journal.consumer J p k t)) away)
 
 gone : (J : List Entry) (p place : Place) (queue : List ℕ) (v : VhostState) (b : Bool) → same_place place p ≡ b → HasConsumers J p v → HasConsumers (J ++ GoneQueue place queue ∷ []) p (cond b (without_queue queue v) v)
 gone J p place queue v true here h =
     fewer (J ++ GoneQueue place queue ∷ []) J p v (without_queue queue v) (λ consumer. not (consumes_from queue consumer)) h (record { clients = λ k i at. at; begun = omega arith }) refl (λ k t.
-      ap (option_map asked) (find-filtered (is_consumer k t) (consumes_from queue) v.consumers (single-once k t v.consumers h.single))
-      ∙ from-queue queue (find (is_consumer k t) v.consumers)
-      ∙ ap (λ o. cond (journal.is_from queue o) None o) (h.consumers k t)
-      ∙ sym (ap (λ c. cond (c && journal.is_from queue (journal.consumer J p k t)) None (journal.consumer J p k t)) here)
-      ∙ sym (consumer-push J (GoneQueue place queue) p k t))
+    ap (option_map asked) (find-filtered (is_consumer k t) (consumes_from queue) v.consumers (single-once k t v.consumers h.single))
+    ∙ from-queue queue (find (is_consumer k t) v.consumers)
+    ∙ ap (λ o. cond (journal.is_from queue o) None o) (h.consumers k t)
+    ∙ sym (ap (λ c. cond (c && journal.is_from queue (journal.consumer J p k t)) None (journal.consumer J p k t)) here)
+    ∙ sym (consumer-push J (GoneQueue place queue) p k t))
 gone J p place queue v false away h =
     elsewhere J p (GoneQueue place queue) v h (λ k t. ap (λ c. cond (c && journal.is_from queue (journal.consumer J p k t)) None (journal.consumer J p k t)) away)
 
@@ -227,11 +227,11 @@ consumed-here J p place client queue tag no_ack prefetch v here grown h new =
     let free : find (is_consumer client tag) v.consumers ≡ None = is-free J p place client tag v here h new in
     record {
       consumers = λ k t.
-        ap (option_map asked) (find-push k t v.consumers begins)
-        ∙ begun-by (find (is_consumer k t) v.consumers) (is_consumer k t begins) begins (free-of k t v.consumers begins free)
-        ∙ ap (cond (is_consumer k t begins) (Some (asked begins))) (h.consumers k t)
-        ∙ sym (ap (λ c. cond c (Some (asked begins)) (journal.consumer J p k t)) (is_same-here p place k client t tag true here))
-        ∙ sym (consumer-push J (Consumed place client queue tag no_ack prefetch) p k t);
+          ap (option_map asked) (find-push k t v.consumers begins)
+          ∙ begun-by (find (is_consumer k t) v.consumers) (is_consumer k t begins) begins (free-of k t v.consumers begins free)
+          ∙ ap (cond (is_consumer k t begins) (Some (asked begins))) (h.consumers k t)
+          ∙ sym (ap (λ c. cond c (Some (asked begins)) (journal.consumer J p k t)) (is_same-here p place k client t tag true here))
+          ∙ sym (consumer-push J (Consumed place client queue tag no_ack prefetch) p k t);
       single = single-push v.consumers begins h.single (any-all (is_consumer client tag) v.consumers (find-any (is_consumer client tag) v.consumers free));
       rise = rise-push v.consumers begins h.rise (All-weaker (IsNumbered v) (λ c. c.holder.part < v.begun + 1) (part-below v) v.consumers h.numbered);
       numbered = All-push (IsNumbered w) v.consumers begins (All-weaker (IsNumbered v) (IsNumbered w) (λ c. numbered-grown v w c grown) v.consumers h.numbered) (new-numbered client queue tag no_ack prefetch v);

@@ -1,11 +1,10 @@
 -- Who holds a copy as the journal has it keeps it so, and counts for its consumer as there.
-use Rattle.std.proofs.Common.{◌≡◌, ℕ, ◌+◌, ◌<◌, ◌≤◌, ◌==◌, Bool, true, false, cond, not, ◌&&◌, ◌||◌, List, [], ◌∷◌, ◌++◌, Option, Some, None, All, filter, find, position, fold, refl, sym, ap, subst, ◌∙◌, arith, eq-eqb, eqb-true, ne_eqb}
+use Rattle.std.proofs.Common.{◌≡◌, ℕ, ◌<◌, ◌≤◌, ◌==◌, Bool, true, false, cond, not, ◌&&◌, ◌||◌, List, [], ◌∷◌, ◌++◌, Option, Some, None, All, filter, find, position, refl, sym, ap, ◌∙◌, arith, eq-eqb, eqb-true, ne_eqb}
 use Rattle.std.specs.Bool.{beq}
 use Rattle.std.specs.List.{list_any}
 use Rattle.std.specs.Option.{option_map, option_map_or, option_or}
 use Rattle.std.proofs.lemmas.Bool.{true≢false, and_right, false_from_ne_true}
 use Rattle.std.proofs.lemmas.Option.{none-some, same_Some}
-use Rattle.std.proofs.lemmas.List.Elements.{All-head, All-tail}
 use Rattle.std.proofs.lemmas.List.Sums.{fold-append}
 use Rattle.queue_core.specs.declared.rows.Holder.{Holder}
 use Rattle.queue_core.specs.Rows.{same_holder}
@@ -20,21 +19,18 @@ use Rattle.fed_journal.specs.Consumers as journal
 use Rattle.mini_broker.specs.declared.consumer.Consumer.{Consumer}
 use Rattle.mini_broker.specs.Consumers.{is_client, is_consumer}
 use Rattle.mini_broker.specs.State.{VhostState}
-use Rattle.mini_broker.specs.Consume.{consumer_of, registered, client_number, holder_for, new_consumer, with_consumer, without_consumer}
+use Rattle.mini_broker.specs.Consume.{consumer_of, registered, holder_for, new_consumer, with_consumer, without_consumer}
 use Rattle.mini_broker.specs.Close.{is_on, consumes_from, disconnected, without_queue}
 use Rattle.mini_broker.specs.Record.{with_handed, holder_as}
 use Rattle.broker_view.specs.Recorded.{recorded}
 use Rattle.broker_view.specs.Suits.{Suits}
-use Rattle.broker_view.specs.View.{asked, AreSingle, Rise, IsNumbered, HasConsumers, part_of, was_handed, CountsFor, IsChannel, IsHolder}
-use Rattle.broker_view.proofs.Alike.{same_text-true, same_text-refl, same_place-true, same_place-refl, same_client-true, same_client-refl}
+use Rattle.broker_view.specs.View.{AreSingle, Rise, IsNumbered, HasConsumers, part_of, CountsFor, IsChannel, IsHolder}
+use Rattle.broker_view.proofs.Names.{same_text-true, same_text-refl, same_place-refl}
+use Rattle.broker_view.proofs.Alike.{same_client-true, same_client-refl}
+use Rattle.broker_view.proofs.Copies.{NotHanded}
 use Rattle.broker_view.proofs.Finds.{found, unless_it, find-filtered}
-use Rattle.broker_view.proofs.Clients.{IsPlain, plain-same, plain-handed, SameClients, Grows, same-grows, recorded-grows, registered-longer, registered-number, number-once}
+use Rattle.broker_view.proofs.Clients.{plain-same, plain-handed, Grows, recorded-grows, registered-longer, registered-number, number-once}
 use Rattle.broker_view.proofs.Consuming.{consumer-same, single-once, is_same-here, is-free, find-push, free-of}
-
--- the entry hands the copy to no client
-abbrev pub NotHanded : Entry → ℕ → Type 0
-NotHanded (Delivered place client tag queue copy no_ack) c = copy ≡ c → ⊥
-NotHanded _ c = Unit {0}
 
 pub handed-push : (J : List Entry) (e : Entry) (p : Place) (k : Client) (t : List ℕ) → journal.handed_since (J ++ e ∷ []) p k t ≡ journal.handed_step p k t (journal.handed_since J p k t) e
 unfolding journal.handed_since
@@ -107,13 +103,13 @@ counts-begun J p place client queue tag no_ack prefetch v k under c part true he
     let begins : Consumer = new_consumer client queue tag no_ack prefetch v in
     let free : find (is_consumer client tag) v.consumers ≡ None = is-free J p place client tag v here h new in
     new-counts (find (is_consumer k t) v.consumers) (is_consumer k t begins) begins n part c under t (journal.handed_since J p k t) (free-of k t v.consumers begins free) (omega arith) (counts t n)
-      (sym (ap (option_map (λ (consumer : Consumer). consumer.holder.part)) (find-push k t v.consumers begins)) ∙ at)
+    (sym (ap (option_map (λ (consumer : Consumer). consumer.holder.part)) (find-push k t v.consumers begins)) ∙ at)
     ∙ sym (ap (λ ns. same_text under t && list_any (λ m. m == c) ns)
-      (handed-push J (Consumed place client queue tag no_ack prefetch) p k t ∙ ap (λ d. cond d [] (journal.handed_since J p k t)) (is_same-here p place k client t tag true here)))
+    (handed-push J (Consumed place client queue tag no_ack prefetch) p k t ∙ ap (λ d. cond d [] (journal.handed_since J p k t)) (is_same-here p place k client t tag true here)))
 counts-begun J p place client queue tag no_ack prefetch v k under c part false away h new last counts t n at =
     counts t n at
     ∙ sym (ap (λ ns. same_text under t && list_any (λ m. m == c) ns)
-      (handed-push J (Consumed place client queue tag no_ack prefetch) p k t ∙ ap (λ d. cond d [] (journal.handed_since J p k t)) (is_same-here p place k client t tag false away)))
+    (handed-push J (Consumed place client queue tag no_ack prefetch) p k t ∙ ap (λ d. cond d [] (journal.handed_since J p k t)) (is_same-here p place k client t tag false away)))
 
 -- ---- each entry
 
@@ -200,9 +196,9 @@ other-part J p v k tag t n (Some x) None h other is_x is_y at =
     ne_eqb n 0 (λ none. omega (arith, first, part, none))
 other-part J p v k tag t n (Some x) (Some y) h other is_x is_y at =
     false_from_ne_true (n == y.holder.part) (λ equal.
-      let same : x ≡ y = one-of (is_consumer k t) (is_consumer k tag) x y v.consumers h.rise is_x is_y (same_Some x.holder.part n at ∙ eqb-true n y.holder.part equal) in
-      let tags : t ≡ tag = sym (found-consumer J p v k t x h is_x).tag ∙ ap (λ (c : Consumer). c.tag) same ∙ (found-consumer J p v k tag y h is_y).tag in
-      true≢false (sym (same_text-refl tag) ∙ ap (same_text tag) (sym tags) ∙ other))
+    let same : x ≡ y = one-of (is_consumer k t) (is_consumer k tag) x y v.consumers h.rise is_x is_y (same_Some x.holder.part n at ∙ eqb-true n y.holder.part equal) in
+    let tags : t ≡ tag = sym (found-consumer J p v k t x h is_x).tag ∙ ap (λ (c : Consumer). c.tag) same ∙ (found-consumer J p v k tag y h is_y).tag in
+    true≢false (sym (same_text-refl tag) ∙ ap (same_text tag) (sym tags) ∙ other))
 
 any-last : (was : List ℕ) (c : ℕ) → list_any (λ n. n == c) (was ++ c ∷ []) ≡ true
 any-last [] c = ap (λ b. b || false) (eq-eqb c c refl)
@@ -225,11 +221,11 @@ fresh-by J p k tag q c no_ack v true here h =
       number = client.number;
       last = client.last;
       counts = λ t n at.
-        fresh-counts J p k tag t c n (journal.handed_since J p k t) v (same_text tag t) refl h at
-        ∙ sym (ap (λ ns. same_text tag t && list_any (λ m. m == c) ns)
+          fresh-counts J p k tag t c n (journal.handed_since J p k t) v (same_text tag t) refl h at
+          ∙ sym (ap (λ ns. same_text tag t && list_any (λ m. m == c) ns)
           (handed-push J (Delivered p k tag q c no_ack) p k t
           ∙ ap (λ d. cond d (journal.handed_since J p k t ++ c ∷ []) (journal.handed_since J p k t))
-            (is_same-here p p k k t tag true (same_place-refl p) ∙ ap (λ d. d && same_text tag t) (same_client-refl k))));
+          (is_same-here p p k k t tag true (same_place-refl p) ∙ ap (λ d. d && same_text tag t) (same_client-refl k))));
     }
 
 -- who is handed a copy holds it as the journal has it
@@ -247,8 +243,8 @@ counts-by J p v k t consumer c place client tag r true same at is h =
     ∙ ap (λ a. same_text tag t && list_any (λ n. n == c) (journal.handed_since J p a t)) clients
 counts-by J p v k t consumer c place client tag r false other at is h =
     ap (λ b. b && (consumer.holder.part == r.part)) (false_from_ne_true (consumer.holder.number == r.number) (λ equal.
-      let clients : client ≡ k = number-once client k v.clients r.number h.number (found-number v k t consumer at ∙ ap Some (eqb-true consumer.holder.number r.number equal)) in
-      true≢false (sym (same_client-refl client) ∙ ap (same_client client) clients ∙ other)))
+    let clients : client ≡ k = number-once client k v.clients r.number h.number (found-number v k t consumer at ∙ ap Some (eqb-true consumer.holder.number r.number equal)) in
+    true≢false (sym (same_client-refl client) ∙ ap (same_client client) clients ∙ other)))
 
 -- a copy counts for the consumer's prefetch where the journal has it held for the consumer (RabbitMQ, Consumer Prefetch)
 pub counts-as : (J : List Entry) (p : Place) (v : VhostState) (k : Client) (t : List ℕ) (consumer : Consumer) (c : ℕ) (h : holders.Holder) (r : Holder) → HasConsumers J p v → consumer_of k t v ≡ Some consumer → IsHolder J p v c h r → same_holder consumer.holder r ≡ (journal.is_consumer_of p k t (Some h) && list_any (λ n. n == c) (journal.handed_since J p k t))
