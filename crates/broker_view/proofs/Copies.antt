@@ -30,12 +30,16 @@ use Rattle.broker_view.specs.Recorded.{recorded, session_holder}
 use Rattle.broker_view.specs.Suits.{Suits}
 use Rattle.broker_view.proofs.Names.{same_text-true, same_text-refl, same_text-sym, same_place-true, same_place-refl, number-sym}
 use Rattle.broker_view.proofs.Publications.{publication-longer, standing-push, entered-same, home-longer}
-use Rattle.broker_view.proofs.Holding.{NotHanded}
 use Rattle.broker_view.proofs.Matching.{Matches, IsChange, Follows, stands-there, row-there, change-all, all-changed, some-kept, none-changed, none-kept}
 use Rattle.broker_view.proofs.QueueRows.{all-rows, changed-rows_none, gone-rows, made-rows}
 use Rattle.broker_view.proofs.FreedRows.{freed_row, freed_hold, freed-rows, freed-ready, freed-session, freed-channel}
 
 -- ---- the frame of each step
+
+-- the copy isn't the one that the entry hands out
+abbrev pub NotHanded : Entry → ℕ → Type 0
+NotHanded (Delivered place client tag queue copy no_ack) c = copy ≡ c → ⊥
+NotHanded _ c = Unit {0}
 
 -- who holds a copy goes on to hold it under the same number
 abbrev pub Keeps : List Entry → Place → VhostState → Entry → VhostState → Type 0
