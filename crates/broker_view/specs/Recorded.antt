@@ -1,5 +1,5 @@
 -- What an entry of the journal does to a virtual host.
-use Rattle.std.specs.Prelude.{ℕ, List, true, if◌then◌else◌}
+use Rattle.std.specs.Prelude.{ℕ, Bool, true, false, not, if◌then◌else◌}
 use Rattle.queue_core.specs.declared.rows.Holder.{Holder}
 use Rattle.fed_journal.specs.declared.place.Place.{Place}
 use Rattle.fed_journal.specs.declared.entry.Entry.{Entry}
@@ -40,3 +40,20 @@ recorded link p (Requeued place client copy) v = with_released copy v
 recorded link p (Purged place queue) v = if same_place place p then with_purged queue v else v
 recorded link p (Closed place connection) v = if same_place place p then disconnected connection v else v
 recorded link p _ v = v
+
+-- entries of declarations and bindings (AMQP 0-9-1, classes queue and exchange)
+abbrev pub is_making : Entry → Bool
+is_making (MadeQueue place queue options owner) = true
+is_making (MadeExchange place exchange shape) = true
+is_making (GoneQueue place queue) = true
+is_making (Bound place binding) = true
+is_making (Unbound place binding) = true
+is_making _ = false
+
+-- entries that are neither these nor of a client that consumes (AMQP 0-9-1, class basic)
+abbrev pub is_moving : Entry → Bool
+is_moving (Consumed place client queue tag no_ack prefetch) = false
+is_moving (Cancelled place client tag) = false
+is_moving (Delivered place client tag queue copy no_ack) = false
+is_moving (Closed place connection) = false
+is_moving e = not (is_making e)

@@ -1,12 +1,12 @@
 //! The virtual host of a broker, and what the journal records of it.
 
-ghost use Rattle.std.specs.Prelude.{◌≡◌, OnOk};
+ghost use Rattle.std.specs.Prelude.{◌≡◌, OnOk, IsTrue};
 ghost use Rattle.fed_journal.specs.Names.{same_place};
-ghost use Rattle.broker_view.specs.Recorded.{session_holder};
+ghost use Rattle.broker_view.specs.Recorded.{session_holder, is_making, is_moving};
 ghost use Rattle.broker_view.specs.Hosts.{place_of, recorded_at, IsRecordable};
 
 use amqp_props::Text;
-use fed_journal::entry::{Entry, Publication};
+use fed_journal::entry::Entry;
 use fed_journal::place::Place;
 use mini_broker::Vhost;
 use queue_core::Holder;
@@ -28,7 +28,7 @@ fn is_at(host: &Host, place: &Place) -> bool
     place.broker == host.broker && place.vhost.as_str() == "/"
 }
 
-/// The holder of a session of a link, by the link's number.
+/// A session of a link as a holder of copies, by the link's number.
 fn session_holder(link: u32, session: u32) -> Holder
     ensures { result ≡ session_holder link session }
 {
@@ -39,3 +39,125 @@ fn session_holder(link: u32, session: u32) -> Holder
     }
 }
 
+/// Does to the host what a declaration or a binding did at its place.
+///
+/// # Errors
+///
+/// For want of memory.
+fn record_made(host: &mut Host, link: u32, entry: &Entry) -> Result<(), AllocError>
+    requires { IsRecordable host.old entry.now }
+    ensures { IsTrue (is_making entry.now) → OnOk result (host.new ≡ recorded_at link entry.now host.old) }
+{
+    match entry {
+        Entry::MadeQueue {
+            place,
+            queue,
+            options,
+            owner,
+        } if is_at(host, place) => {
+            host.vhost.make_queue(queue.as_str(), *options, *owner)?;
+        }
+        Entry::MadeExchange {
+            place,
+            exchange,
+            shape,
+        } if is_at(host, place) => {
+            host.vhost.make_exchange(exchange.as_str(), *shape)?;
+        }
+        Entry::GoneQueue { place, queue } if is_at(host, place) => {
+            host.vhost.remove_queue(queue.as_str());
+        }
+        Entry::Bound { place, binding } if is_at(host, place) => {
+            host.vhost.add_binding(binding)?;
+        }
+        Entry::Unbound { place, binding } if is_at(host, place) => {
+            host.vhost.remove_binding(binding);
+        }
+        _ => {}
+    }
+    Ok(())
+}
+
+/// Does to the host what became of copies by their numbers, or in its queues.
+///
+/// # Errors
+///
+/// For want of memory.
+fn record_moved(host: &mut Host, link: u32, entry: &Entry) -> Result<(), AllocError>
+    requires { IsRecordable host.old entry.now }
+    ensures { IsTrue (is_moving entry.now) → OnOk result (host.new ≡ recorded_at link entry.now host.old) }
+{
+    match entry {
+        Entry::Published(publication) if is_at(host, &publication.place) => {
+            let message = publication.message.clone()?;
+            host.vhost
+                .enter(publication.queues.as_slice(), publication.first, message)?;
+        }
+        Entry::Flushed { broker } if host.broker == *broker => host.vhost.flush(),
+        Entry::Took { session, copy, .. } => {
+            host.vhost.take(*copy, session_holder(link, *session));
+        }
+        Entry::Settled { copy, .. } | Entry::Acked { copy, .. } | Entry::Rejected { copy, .. } => {
+            host.vhost.settle(*copy);
+        }
+        Entry::Requeued { copy, .. } => host.vhost.release(*copy),
+        Entry::Purged { place, queue } if is_at(host, place) => {
+            host.vhost.clear_queue(queue.as_str());
+        }
+        _ => {}
+    }
+    Ok(())
+}
+
+/// Does to the host what an entry of the journal records of its place.
+///
+/// # Errors
+///
+/// For want of memory.
+pub fn record(host: &mut Host, link: u32, entry: &Entry) -> Result<(), AllocError>
+    requires { IsRecordable host.old entry.now }
+    ensures { OnOk result (host.new ≡ recorded_at link entry.now host.old) }
+{
+    match entry {
+        Entry::Consumed {
+            place,
+            client,
+            queue,
+            tag,
+            no_ack,
+            prefetch,
+        } if is_at(host, place) => {
+            host.vhost.begin_consumer(
+                *client,
+                queue.as_str(),
+                tag.as_str(),
+                *no_ack,
+                *prefetch,
+            )?;
+        }
+        Entry::Cancelled { place, client, tag } if is_at(host, place) => {
+            host.vhost.cancel(*client, tag.as_str());
+        }
+        Entry::Delivered {
+            place,
+            client,
+            tag,
+            queue,
+            copy,
+            no_ack,
+        } if is_at(host, place) => {
+            host.vhost
+                .hand(*client, tag.as_str(), queue.as_str(), *copy, *no_ack)?;
+        }
+        Entry::Closed { place, connection } if is_at(host, place) => {
+            host.vhost.disconnect(*connection);
+        }
+        Entry::MadeQueue { .. }
+        | Entry::MadeExchange { .. }
+        | Entry::GoneQueue { .. }
+        | Entry::Bound { .. }
+        | Entry::Unbound { .. } => record_made(host, link, entry)?,
+        _ => record_moved(host, link, entry)?,
+    }
+    Ok(())
+}
