@@ -18,10 +18,12 @@ use Rattle.route_core.specs.Objects.{has, is_named, number_of, rises}
 use Rattle.route_core.specs.Routing.{Routing, predeclared, object_named, with_object, IsNext, stands}
 use Rattle.amqp_props.specs.declared.link.QueueOptions.{QueueOptions}
 use Rattle.amqp_props.specs.declared.link.ExchangeKind.{ExchangeKind}
-use Rattle.mini_broker.specs.declared.client.ExchangeShape.{ExchangeShape}
+use Rattle.amqp_props.specs.declared.link.ExchangeKind.TheVariants.{Direct, Fanout, Headers, Topic}
+use Rattle.fed_journal.specs.declared.place.ExchangeShape.{ExchangeShape}
+use Rattle.fed_journal.specs.Configuration.{predeclared_shape}
 use Rattle.mini_broker.specs.declared.standing.StandingQueue.{StandingQueue}
 use Rattle.mini_broker.specs.Queues.{Named, queue_of, changed, all_changed}
-use Rattle.mini_broker.specs.Exchanges.{NamedShape, shape_of, declared_shape, predeclared_by, predeclared_kind, predeclared_shape}
+use Rattle.mini_broker.specs.Exchanges.{NamedShape, shape_of, declared_shape}
 use Rattle.mini_broker.specs.State.{AreRouted, SameNames}
 
 abbrev pub under : {Z V : Type 0} → List (String Z × V) → List (List ℕ × V)
@@ -53,6 +55,12 @@ pub lookup_push : {V : Type 0} (name : List ℕ) (es : List (List ℕ × V)) (e 
 lookup_push name [] e = elim (bytes_eq name e.0) as (λ b. is_some (cond b (Some e.1) None) ≡ b) [ true ↦ refl | false ↦ refl ]
 lookup_push name (d ∷ es) e =
     elim (bytes_eq name d.0) as (λ b. is_some (cond b (Some d.1) (lookup (bytes_eq name) (es ++ e ∷ []))) ≡ (is_some (cond b (Some d.1) (lookup (bytes_eq name) es)) || bytes_eq name e.0)) [ true ↦ refl | false ↦ lookup_push name es e ]
+
+-- the type, by which of the names it is
+abbrev predeclared_by : Bool → Bool → Bool → Bool → Bool → Option ExchangeKind
+predeclared_by direct fanout headers match topic =
+    if direct then Some Direct else if fanout then Some Fanout else if headers then Some Headers else if match then Some Headers else
+    if topic then Some Topic else None
 
 abbrev as_predeclared : ExchangeKind → ExchangeShape
 as_predeclared kind = record { kind = kind; durable = true; internal = false }

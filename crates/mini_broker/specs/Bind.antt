@@ -6,7 +6,7 @@ use Rattle.route_core.specs.declared.object.Sort.TheVariants as sorts
 use Rattle.route_core.specs.declared.binding.Binding.{Binding}
 use Rattle.route_core.specs.Bindings.{has_binding}
 use Rattle.route_core.specs.Routing.{Routing}
-use Rattle.mini_broker.specs.declared.client.Client.{Client}
+use Rattle.fed_journal.specs.declared.place.Client.{Client}
 use Rattle.mini_broker.specs.declared.fault.ClientFault.{ClientFault}
 use Rattle.mini_broker.specs.declared.fault.ClientFault.TheVariants.{Refused}
 use Rattle.mini_broker.specs.Names.{is_unbindable}

@@ -5,8 +5,8 @@ use Rattle.amqp_props.specs.declared.link.ExchangeKind.{ExchangeKind}
 use Rattle.amqp_props.specs.declared.link.ExchangeKind.TheVariants.{Direct, Fanout, Headers, Topic}
 use Rattle.route_core.specs.declared.object.Node.TheVariants as nodes
 use Rattle.route_core.specs.Routing.{with_object}
-use Rattle.mini_broker.specs.declared.client.Client.{Client}
-use Rattle.mini_broker.specs.declared.client.ExchangeShape.{ExchangeShape}
+use Rattle.fed_journal.specs.declared.place.Client.{Client}
+use Rattle.fed_journal.specs.declared.place.ExchangeShape.{ExchangeShape}
 use Rattle.mini_broker.specs.declared.fault.ClientFault.{ClientFault}
 use Rattle.mini_broker.specs.declared.fault.ClientFault.TheVariants.{Refused}
 use Rattle.mini_broker.specs.declared.standing.StandingQueue.{StandingQueue}

@@ -13,3 +13,5 @@ pub mod Consume
 pub mod Deliver
 pub mod Settle
 pub mod Publish
+pub mod Close
+pub mod Record

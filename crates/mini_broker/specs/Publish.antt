@@ -1,11 +1,11 @@
 -- A message is published, and a copy enters each queue that it reaches (AMQP 0-9-1, basic.publish).
 use Rattle.std.specs.Prelude.{ℕ, ◌+◌, List, [], ◌∷◌, if◌then◌else◌, Option, Some, None, Result, Ok, Err}
 use Rattle.std.specs.Str.{bytes_eq}
-use Rattle.field_tables.specs.Fields.{Pairs, no_pairs}
 use Rattle.amqp_props.specs.declared.message.Message.{Message}
 use Rattle.route_core.specs.Routes.{routed_names}
 use Rattle.route_core.specs.Walks.{publish, is_reserved}
-use Rattle.mini_broker.specs.declared.client.ExchangeShape.{ExchangeShape}
+use Rattle.fed_journal.specs.declared.place.ExchangeShape.{ExchangeShape}
+use Rattle.fed_journal.specs.Messages.{headers_of}
 use Rattle.mini_broker.specs.declared.fault.ClientFault.{ClientFault}
 use Rattle.mini_broker.specs.declared.fault.ClientFault.TheVariants.{Refused}
 use Rattle.mini_broker.specs.Mail.{entered}
@@ -23,14 +23,6 @@ abbrev pub publish_refusal : List ℕ → VhostState → Option ClientFault
 publish_refusal exchange v =
     if is_reserved exchange then Some (Refused 403) else
     if bytes_eq exchange [] then None else shape_refusal (shape_of exchange v.exchanges)
-
-abbrev pub pairs_of : Option Pairs → Pairs
-pairs_of None = no_pairs
-pairs_of (Some pairs) = pairs
-
--- its header fields; a message without headers has none (AMQP 0-9-1, class basic: headers)
-abbrev pub headers_of : Message → Pairs
-headers_of m = pairs_of m.props.headers
 
 -- the queues that it reaches, in the order of their making (AMQP 0-9-1, 3.1.3 "Exchange Types")
 abbrev pub reached : Message → VhostState → List (List ℕ)

@@ -4,7 +4,7 @@ use Rattle.route_core.specs.declared.object.Sort.TheVariants as sorts
 use Rattle.route_core.specs.declared.object.Node.TheVariants as nodes
 use Rattle.route_core.specs.Objects.{has}
 use Rattle.route_core.specs.Routing.{Routing, IsNext}
-use Rattle.mini_broker.specs.declared.client.Client.{Client}
+use Rattle.fed_journal.specs.declared.place.Client.{Client}
 use Rattle.mini_broker.specs.declared.consumer.Consumer.{Consumer}
 use Rattle.mini_broker.specs.Queues.{Named, queue_of}
 use Rattle.mini_broker.specs.Exchanges.{NamedShape, shape_of}

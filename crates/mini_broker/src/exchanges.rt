@@ -2,10 +2,11 @@
 
 ghost use Rattle.std.specs.Prelude.{◌≡◌, [], ◌∷◌, ◌++◌, None, OnOk, OnErr, string_bytes};
 ghost use Rattle.std.specs.Option.{option_copied};
-ghost use Rattle.mini_broker.specs.Exchanges.{declared_shape, shape_of, predeclared_kind as kind_predeclared, predeclared_shape as shape_predeclared};
+ghost use Rattle.fed_journal.specs.Configuration.{predeclared_kind as kind_predeclared, predeclared_shape as shape_predeclared};
+ghost use Rattle.mini_broker.specs.Exchanges.{declared_shape, shape_of};
 
-use crate::client::ExchangeShape;
 use amqp_props::ExchangeKind;
+use fed_journal::place::ExchangeShape;
 use indexmap::IndexMap;
 use std::alloc::{AllocError, Global};
 use std::marker::Model;

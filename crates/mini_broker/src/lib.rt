@@ -2,7 +2,8 @@
 #![tactic(auto)]
 
 mod bind;
-mod client;
+mod clients;
+mod close;
 mod consume;
 mod consumer;
 mod declare;
@@ -13,16 +14,18 @@ mod mailbox;
 mod names;
 mod publish;
 mod queues;
+mod record;
 mod settle;
 mod shared;
 mod standing;
 mod vhost;
 
-pub use client::{Client, ExchangeShape};
+pub use clients::Clients;
 pub use consumer::Consumer;
 pub use deliver::Delivered;
 pub use exchanges::Exchanges;
 pub use fault::ClientFault;
+pub use fed_journal::place::{Client, ExchangeShape};
 pub use mailbox::{CopyMessage, Mailbox, Sweep};
 pub use publish::Accepted;
 pub use queues::Queues;
