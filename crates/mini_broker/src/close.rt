@@ -5,7 +5,6 @@ ghost use Rattle.route_core.specs.declared.object.Sort.TheVariants as sorts;
 ghost use Rattle.route_core.specs.Objects.{has};
 ghost use Rattle.route_core.specs.Routing.{without_object};
 ghost use Rattle.mini_broker.specs.Queues.{queue_of};
-ghost use Rattle.mini_broker.specs.State.{SameNames};
 ghost use Rattle.mini_broker.specs.Close.{is_on, consumes_from, freed_from, disconnected, others, without_queue, owned_names, closed, StandInTurn};
 
 use crate::consumer::Consumer;
@@ -19,9 +18,8 @@ use std::alloc::AllocError;
 
 /// Makes each copy ready again that a client of the connection holds.
 fn free_held(queues: &mut Queues, clients: &[Client], connection: u32)
-    requires few { length clients.now ≤ 4294967296 }
-    ensures freed { queues.new ≡ freed_from connection 0 clients.now queues.old }
-    ensures names { SameNames queues.old queues.new }
+    requires { length clients.now ≤ 4294967296 }
+    ensures { queues.new ≡ freed_from connection 0 clients.now queues.old }
 {
     for (number, client) in clients.iter().enumerate() {
         if client.connection == connection {

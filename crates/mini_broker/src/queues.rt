@@ -188,6 +188,15 @@ fn is_owned(queue: &StandingQueue, connection: u32) -> bool
     }
 }
 
+/// Adds a name as the last.
+fn add_name(alloc: Global, names: &mut Vec<Text>, name: &str) -> Result<(), AllocError>
+    ensures { OnOk result (names.new.items ≡ names.old.items ++ name.now ∷ []) }
+{
+    let own = Text::from_str(alloc, name)?;
+    names.push(own)?;
+    Ok(())
+}
+
 /// The names of the queues that the connection has to itself.
 fn owned_among(
     alloc: Global,
@@ -200,7 +209,7 @@ fn owned_among(
     let mut names = Vec::new(alloc);
     for (name, queue) in table.iter() {
         if is_owned(queue, connection) {
-            names.push(Text::from_str(alloc, name.as_str())?)?;
+            add_name(alloc, &mut names, name.as_str())?;
         }
     }
     Ok(names)
