@@ -3,3 +3,4 @@ mod QueueLemmas
 mod NameLemmas
 mod AnswerLemmas
 mod PublishLemmas
+mod CloseLemmas

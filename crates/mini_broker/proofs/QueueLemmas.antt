@@ -1,6 +1,6 @@
 -- The table of queues as the list of them.
 use Rattle.std.proofs.Common.{◌≡◌, ℕ, zero, suc, ◌+◌, Bool, true, false, cond, not, List, [], ◌∷◌, ◌++◌, Option, Some, None, String, string_bytes, position, slice_get, is_some, unwrap_or, refl, ap, sym, ◌∙◌, subst, arith, map, take, drop}
-use Rattle.std.specs.Prelude.{All, ◌||◌, Result, Ok, Err, OnOk, OnErr, IfSome, IfNone}
+use Rattle.std.specs.Prelude.{All, ◌||◌, filter, Result, Ok, Err, OnOk, OnErr, IfSome, IfNone}
 use Rattle.std.specs.List.{position_or_len, list_any}
 use Rattle.std.specs.Map.{lookup, keys_of, values_of}
 use Rattle.std.specs.Str.{bytes_eq}
@@ -10,6 +10,7 @@ use Rattle.indexmap.specs.IndexMap.{set_value_at}
 use Rattle.indexmap.proofs.MapLemmas.{Found-position}
 use Rattle.mini_broker.specs.declared.standing.StandingQueue.{StandingQueue}
 use Rattle.mini_broker.specs.Queues.{Named, queue_of, changed, all_changed}
+use Rattle.mini_broker.specs.Close.{others}
 
 abbrev pub Entries : Type 0 → Type 0
 Entries Z = List (String Z × StandingQueue)
@@ -126,3 +127,12 @@ named_swept change (e ∷ es) = ap (λ rest. (string_bytes e.0, change e.1) ∷ 
 pub any_named : {Z : Type 0} (test : StandingQueue → Bool) (es : Entries Z) → list_any test (values_of es) ≡ list_any (λ q. test q.1) (named es)
 any_named test [] = refl
 any_named test (e ∷ es) = ap (λ b. test e.1 || b) (any_named test es)
+
+-- the entries but those of the name
+pub named_others : {Z : Type 0} (name : List ℕ) (es : Entries Z) → named (filter (λ e. not (bytes_eq (string_bytes e.0) name)) es) ≡ others name (named es)
+named_others name [] = refl
+named_others name (e ∷ es) =
+    elim (bytes_eq (string_bytes e.0) name) as (λ b. named (cond (not b) (e ∷ filter (λ e. not (bytes_eq (string_bytes e.0) name)) es) (filter (λ e. not (bytes_eq (string_bytes e.0) name)) es)) ≡ cond (not b) ((string_bytes e.0, e.1) ∷ others name (named es)) (others name (named es))) [
+      | true ↦ named_others name es
+      | false ↦ ap (λ rest. (string_bytes e.0, e.1) ∷ rest) (named_others name es)
+    ]

@@ -8,7 +8,7 @@ use Rattle.queue_core.specs.declared.rows.Holder.{Holder}
 use Rattle.queue_core.specs.Rows as rows
 use Rattle.mini_broker.specs.declared.mailbox.CopyMessage.{CopyMessage}
 use Rattle.mini_broker.specs.declared.mailbox.Sweep.{Sweep}
-use Rattle.mini_broker.specs.declared.mailbox.Sweep.TheVariants.{Store, Free, Leave, Release}
+use Rattle.mini_broker.specs.declared.mailbox.Sweep.TheVariants.{Store, Free, Leave, Release, Hand, Settle, Requeue}
 
 pub record Mail : Type 0 where
   pub rows : List Row
@@ -82,9 +82,12 @@ first_copy m = option_and_then (λ number. copy_of number m.copies) (rows.first_
 abbrev pub is_held_at : ℕ → ℕ → Mail → Bool
 is_held_at client number m = option_map_or (rows.is_of_client client) (rows.holder_of number m.rows) false
 
--- what is done to every queue: a flush, the end of a connection, and an answer for a copy that the client holds
+-- what is done to every queue: a flush, the end of a connection, an answer for a copy that the client holds, and a link that takes or settles a copy
 abbrev pub swept : Sweep → Mail → Mail
 swept Store m = stored m
 swept (Free client) m = released_from client m
 swept (Leave client number) m = if is_held_at client number m then left number m else m
 swept (Release client number) m = if is_held_at client number m then released number m else m
+swept (Hand number holder) m = handed number holder m
+swept (Settle number) m = left number m
+swept (Requeue number) m = released number m

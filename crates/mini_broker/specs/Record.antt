@@ -1,21 +1,21 @@
 -- What the journal records of a virtual host is done to it.
-use Rattle.std.specs.Prelude.{ℕ, Bool, List}
+use Rattle.std.specs.Prelude.{ℕ, List, Bool}
 use Rattle.std.specs.Option.{option_map_or}
-use Rattle.queue_core.specs.declared.rows.Holder.{Holder}
 use Rattle.amqp_props.specs.declared.message.Message.{Message}
+use Rattle.queue_core.specs.declared.rows.Holder.{Holder}
 use Rattle.fed_journal.specs.declared.place.Client.{Client}
 use Rattle.mini_broker.specs.Mail.{handed, left, released}
 use Rattle.mini_broker.specs.Queues.{all_changed, with_mail}
-use Rattle.mini_broker.specs.State.{VhostState}
-use Rattle.mini_broker.specs.Publish.{all_entered}
 use Rattle.mini_broker.specs.Consume.{consumer_of, registered, holder_for}
 use Rattle.mini_broker.specs.Deliver.{handed_over}
+use Rattle.mini_broker.specs.Publish.{all_entered}
+use Rattle.mini_broker.specs.State.{VhostState}
 
 -- a message's copies enter these queues, numbered in their order (AMQP 0-9-1, basic.publish)
 abbrev pub with_entered : List (List ℕ) → ℕ → Message → VhostState → VhostState
 with_entered names number m v = record v { queues = all_entered names number m v.queues }
 
--- as whom a client holds what it is handed under the tag: as its consumer of that tag, if it has one
+-- as whom a client holds what it is handed under the tag: as its consumer of that tag, if it has one (AMQP 0-9-1, basic.deliver)
 abbrev pub holder_as : Client → List ℕ → VhostState → Holder
 holder_as who tag v = option_map_or (λ consumer. consumer.holder) (consumer_of who tag v) (holder_for who 0 v)
 

@@ -9,11 +9,11 @@ ghost use Rattle.route_core.specs.Routing.{with_binding, without_binding};
 ghost use Rattle.mini_broker.specs.Answers.{IsAnswer};
 ghost use Rattle.mini_broker.specs.Bind.{stands_as as stands_as_end, is_locked_end as is_end_locked, bind_refusal as refusal_of, bind_answer, unbind_answer, with_routing};
 
-use fed_journal::place::Client;
 use crate::declare::is_locked;
 use crate::fault::ClientFault;
 use crate::names::is_unbindable;
 use crate::vhost::Vhost;
+use fed_journal::place::Client;
 use field_tables::Table;
 use route_core::{Router, Sort};
 use std::alloc::AllocError;
@@ -23,7 +23,7 @@ use std::alloc::AllocError;
 /// # Errors
 ///
 /// For want of memory; the bindings are then as they were.
-fn add_binding(
+fn bind_parts(
     router: &mut Router,
     source: &str,
     sort: Sort,
@@ -47,7 +47,7 @@ fn add_binding(
 }
 
 /// Ends a binding in the router, which keeps its queues and exchanges.
-fn remove_binding(
+fn unbind_parts(
     router: &mut Router,
     source: &str,
     sort: Sort,
@@ -136,7 +136,7 @@ impl Vhost {
         if let Some(fault) = self.bind_refusal(who, source, sort, dest) {
             return Err(fault);
         }
-        Ok(add_binding(&mut self.router, source, sort, dest, key, args)?)
+        Ok(bind_parts(&mut self.router, source, sort, dest, key, args)?)
     }
 
     /// Ends a binding for a client; whether there was an equal one.
@@ -161,6 +161,6 @@ impl Vhost {
         if let Some(fault) = self.bind_refusal(who, source, sort, dest) {
             return Err(fault);
         }
-        Ok(remove_binding(&mut self.router, source, sort, dest, key, args))
+        Ok(unbind_parts(&mut self.router, source, sort, dest, key, args))
     }
 }

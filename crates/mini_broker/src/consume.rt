@@ -1,59 +1,22 @@
 //! Clients begin and end to consume.
 
-ghost use Rattle.std.specs.Prelude.{◌≡◌, ◌≢◌, ◌+◌, ◌<◌, ◌++◌, ◌∷◌, [], not, is_some, None, Some, Ok, Err, IfOk, IfErr, OnOk, OnErr, filter, vec_len, vec_capacity};
-ghost use Rattle.std.specs.List.{list_any};
+ghost use Rattle.std.specs.Prelude.{◌≡◌, ◌≢◌, ◌+◌, ◌<◌, ◌++◌, ◌∷◌, [], not, is_some, Some, Ok, IfOk, OnOk, OnErr, filter, vec_len, vec_capacity};
+ghost use Rattle.std.specs.Option.{option_copied};
 ghost use Rattle.mini_broker.specs.Answers.{IsAnswer};
-ghost use Rattle.mini_broker.specs.Consumers.{is_client, is_consumer as is_this_consumer};
+ghost use Rattle.mini_broker.specs.Consumers.{is_consumer as is_this_consumer};
 ghost use Rattle.mini_broker.specs.Bind.{unless};
-ghost use Rattle.mini_broker.specs.Consume.{refusal_at as refusal_of_queue, queue_refusal as refusal_by_queue, consumer_of, consume_refusal as refusal_to_consume, client_number as number_of_client, registered, holder_for, new_consumer as consumer_by, with_consumer, without_consumer};
+ghost use Rattle.mini_broker.specs.Consume.{refusal_at as refusal_of_queue, queue_refusal as refusal_by_queue, consumer_of, consume_refusal as refusal_to_consume, registered, new_consumer as consumer_by, with_consumer, without_consumer};
 
-use fed_journal::place::Client;
-use crate::consumer::{Consumer, client_place, find_consumer, is_consumer};
+use crate::clients::Clients;
+use crate::consumer::{Consumer, find_consumer, is_consumer};
 use crate::declare::is_locked;
 use crate::fault::ClientFault;
 use crate::names::is_reserved;
 use crate::vhost::Vhost;
 use amqp_props::Text;
+use fed_journal::place::Client;
 use queue_core::Holder;
 use std::alloc::AllocError;
-
-/// The number of the client, or the number that it would get.
-pub(crate) fn client_number(clients: &[Client], who: Client) -> Result<u32, ClientFault>
-    ensures number { IfOk result (λ number. number ≡ number_of_client who clients.now) }
-    ensures memory { IfErr result (λ e. e ≡ ClientFault.Memory) }
-{
-    let place = match client_place(clients, who) {
-        Some(place) => place,
-        None => clients.len(),
-    };
-    match u32::try_from(place) {
-        Ok(number) => Ok(number),
-        Err(_) => Err(ClientFault::Memory),
-    }
-}
-
-/// Whether the client has a number.
-fn is_registered(clients: &[Client], who: Client) -> bool
-    ensures { result ≡ list_any (is_client who) clients.now }
-{
-    clients.iter().any(|client| *client == who)
-}
-
-/// Numbers the client, unless it has a number.
-///
-/// # Errors
-///
-/// For want of memory; the clients are then as they were.
-pub(crate) fn register(clients: &mut Vec<Client>, who: Client) -> Result<(), AllocError>
-    ensures ok { OnOk result (clients.new.items ≡ registered who clients.old.items) }
-    ensures err { OnErr result (clients.new.items ≡ clients.old.items) }
-{
-    if is_registered(clients, who) {
-        return Ok(());
-    }
-    clients.push(who)?;
-    Ok(())
-}
 
 /// Adds a consumer, for which there is room.
 fn push_consumer(consumers: &mut Vec<Consumer>, consumer: Consumer)
@@ -72,17 +35,17 @@ fn push_consumer(consumers: &mut Vec<Consumer>, consumer: Consumer)
 ///
 /// For want of memory; all is then as it was.
 fn add_consumer(
-    clients: &mut Vec<Client>,
+    clients: &mut Clients,
     consumers: &mut Vec<Consumer>,
     consumer: Consumer,
 ) -> Result<(), AllocError>
-    ensures clients { OnOk result (clients.new.items ≡ registered consumer.client clients.old.items) }
+    ensures clients { OnOk result (clients.new ≡ registered consumer.client clients.old) }
     ensures consumers { OnOk result (consumers.new.items ≡ consumers.old.items ++ consumer ∷ []) }
-    ensures same_clients { OnErr result (clients.new.items ≡ clients.old.items) }
+    ensures same_clients { OnErr result (clients.new ≡ clients.old) }
     ensures same_consumers { OnErr result (consumers.new.items ≡ consumers.old.items) }
 {
     consumers.reserve(1)?;
-    register(clients, consumer.client)?;
+    clients.register(consumer.client)?;
     push_consumer(consumers, consumer);
     Ok(())
 }
@@ -125,6 +88,10 @@ impl Vhost {
     }
 
     /// The consumer that would begin.
+    ///
+    /// # Errors
+    ///
+    /// For want of memory, or where there is no number left.
     fn new_consumer(
         &self,
         who: Client,
@@ -132,15 +99,14 @@ impl Vhost {
         tag: &str,
         no_ack: bool,
         prefetch: u16,
-    ) -> Result<Consumer, ClientFault>
+    ) -> Result<Consumer, AllocError>
         ensures ok { IfOk result (λ consumer. consumer ≡ consumer_by who name.now tag.now no_ack prefetch self.now) }
         ensures fits { OnOk result (self.now.begun + 1 < 4294967296) }
-        ensures memory { IfErr result (λ e. e ≡ ClientFault.Memory) }
     {
         if self.begun == u32::MAX {
-            return Err(ClientFault::Memory);
+            return Err(AllocError);
         }
-        let number = client_number(&self.clients, who)?;
+        let number = self.clients.number(who)?;
         let holder = Holder {
             link: false,
             number,
@@ -161,14 +127,35 @@ impl Vhost {
     /// # Errors
     ///
     /// For want of memory; the virtual host is then as it was.
-    fn begin(&mut self, consumer: Consumer) -> Result<(), ClientFault>
+    fn begin(&mut self, consumer: Consumer) -> Result<(), AllocError>
         requires { self.old.begun + 1 < 4294967296 }
         ensures ok { OnOk result (self.new ≡ with_consumer consumer self.old) }
         ensures err { OnErr result (self.new ≡ self.old) }
-        ensures memory { IfErr result (λ e. e ≡ ClientFault.Memory) }
     {
         add_consumer(&mut self.clients, &mut self.consumers, consumer)?;
         self.begun += 1;
+        Ok(())
+    }
+
+    /// Lets a client consume from a queue under a tag, whatever stands there, and hold so many copies unacknowledged; 0 is
+    /// no limit.
+    ///
+    /// # Errors
+    ///
+    /// For want of memory, or where there is no number left; the virtual host is then as it was.
+    pub fn begin_consumer(
+        &mut self,
+        who: Client,
+        name: &str,
+        tag: &str,
+        no_ack: bool,
+        prefetch: u16,
+    ) -> Result<(), AllocError>
+        ensures ok { OnOk result (self.new ≡ with_consumer (consumer_by who name.now tag.now no_ack prefetch self.old) self.old) }
+        ensures err { OnErr result (self.new ≡ self.old) }
+    {
+        let consumer = self.new_consumer(who, name, tag, no_ack, prefetch)?;
+        self.begin(consumer)?;
         Ok(())
     }
 
@@ -193,8 +180,15 @@ impl Vhost {
         if let Some(fault) = self.consume_refusal(who, name, tag) {
             return Err(fault);
         }
-        let consumer = self.new_consumer(who, name, tag, no_ack, prefetch)?;
-        self.begin(consumer)
+        self.begin_consumer(who, name, tag, no_ack, prefetch)?;
+        Ok(())
+    }
+
+    /// The client's consumer of that tag; None exactly where it has none.
+    pub fn consumer(&self, who: Client, tag: &str) -> Option<&Consumer>
+        ensures { option_copied result ≡ consumer_of who tag.now self.now }
+    {
+        find_consumer(&self.consumers, who, tag)
     }
 
     /// Ends the client's consumer of that tag; false exactly where there is none. What it holds stays held.

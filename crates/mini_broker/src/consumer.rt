@@ -1,11 +1,11 @@
 //! Who consumes, and who holds.
 
-ghost use Rattle.std.specs.Prelude.{◌≡◌, find, position};
+ghost use Rattle.std.specs.Prelude.{◌≡◌, find};
 ghost use Rattle.std.specs.Option.{option_copied};
-ghost use Rattle.mini_broker.specs.Consumers.{is_client, is_consumer as is_this_consumer};
+ghost use Rattle.mini_broker.specs.Consumers.{is_consumer as is_this_consumer};
 
-use fed_journal::place::Client;
 use amqp_props::Text;
+use fed_journal::place::Client;
 use queue_core::Holder;
 
 /// A consumer of a client (AMQP 0-9-1, basic.consume).
@@ -43,11 +43,4 @@ pub(crate) fn find_consumer<'a>(
     consumers
         .iter()
         .find(|consumer| is_consumer(consumer, who, tag))
-}
-
-/// The place of the client in the list.
-pub(crate) fn client_place(clients: &[Client], who: Client) -> Option<usize>
-    ensures { result ≡ position (is_client who) clients.now }
-{
-    clients.iter().position(|client| *client == who)
 }

@@ -1,6 +1,6 @@
 //! Queues and exchanges are declared.
 
-ghost use Rattle.std.specs.Prelude.{◌≡◌, ◌≢◌, ◌∷◌, ◌++◌, [], true, false, None, Some, Ok, Err, OnOk, OnErr, IfErr};
+ghost use Rattle.std.specs.Prelude.{◌≡◌, ◌≢◌, ◌∷◌, ◌++◌, [], true, false, None, Some, Ok, Err, OnOk, OnErr};
 ghost use Rattle.std.specs.Str.{bytes_eq};
 ghost use Rattle.route_core.specs.declared.object.Sort.TheVariants as sorts;
 ghost use Rattle.route_core.specs.declared.object.Node.TheVariants as nodes;
@@ -10,7 +10,6 @@ ghost use Rattle.mini_broker.specs.Queues.{queue_of};
 ghost use Rattle.mini_broker.specs.Exchanges.{shape_of, declared_shape};
 ghost use Rattle.mini_broker.specs.Declare.{is_locked as is_queue_locked, same_options as options_are_same, declared_again as queue_again, declare_answer, owner_of as owner_by, with_queue, same_kind as kinds_are_same, same_shape as shapes_are_same, declared_exchange_again as exchange_again, declare_exchange_answer, with_exchange};
 
-use fed_journal::place::{Client, ExchangeShape};
 use crate::exchanges::Exchanges;
 use crate::fault::ClientFault;
 use crate::mailbox::Mailbox;
@@ -19,6 +18,7 @@ use crate::queues::Queues;
 use crate::standing::StandingQueue;
 use crate::vhost::Vhost;
 use amqp_props::{ExchangeKind, QueueOptions};
+use fed_journal::place::{Client, ExchangeShape};
 use route_core::{Node, Router};
 use std::alloc::{AllocError, Global};
 
@@ -188,24 +188,23 @@ impl Vhost {
         }
     }
 
-    /// Makes a queue that isn't there.
+    /// Makes a queue that isn't there, and gives it to the connection to itself, if there is one.
     ///
     /// # Errors
     ///
-    /// For want of memory; the virtual host is then as it was.
-    fn make_queue(
+    /// For want of memory, or where there is no number left; the virtual host is then as it was.
+    pub fn make_queue(
         &mut self,
         name: &str,
         options: QueueOptions,
         owner: Option<u32>,
-    ) -> Result<(), ClientFault>
+    ) -> Result<(), AllocError>
         requires { queue_of name.now self.old.queues ≡ None }
         ensures made { OnOk result (self.new ≡ with_queue name.now options owner self.old) }
         ensures err { OnErr result (self.new ≡ self.old) }
-        ensures memory { IfErr result (λ e. e ≡ ClientFault.Memory) }
     {
         if self.made == u32::MAX {
-            return Err(ClientFault::Memory);
+            return Err(AllocError);
         }
         let queue = StandingQueue {
             number: self.made,
@@ -218,17 +217,16 @@ impl Vhost {
         Ok(())
     }
 
-    /// Makes an exchange that isn't there.
+    /// Makes an exchange that isn't there. The default exchange, whose name is empty, always is.
     ///
     /// # Errors
     ///
     /// For want of memory; the virtual host is then as it was.
-    fn make_exchange(&mut self, name: &str, shape: ExchangeShape) -> Result<(), ClientFault>
+    pub fn make_exchange(&mut self, name: &str, shape: ExchangeShape) -> Result<(), AllocError>
         requires free { shape_of name.now self.old.exchanges ≡ None }
         requires named { bytes_eq name.now [] ≡ false }
         ensures made { OnOk result (self.new ≡ with_exchange name.now shape self.old) }
         ensures err { OnErr result (self.new ≡ self.old) }
-        ensures memory { IfErr result (λ e. e ≡ ClientFault.Memory) }
     {
         stand_exchange(
             self.alloc,

@@ -8,13 +8,13 @@ ghost use Rattle.mini_broker.specs.State.{SameNames};
 ghost use Rattle.mini_broker.specs.Consume.{consumer_of, registered, client_number as number_of_client};
 ghost use Rattle.mini_broker.specs.Deliver.{offer_of, offered, held_count as count_of_held, is_busy as is_consumer_busy, deliver_to as delivered_to, deliver_answer, handed_over, with_delivered, get_answer, get_part as part_of_get, with_got};
 
-use fed_journal::place::Client;
-use crate::consume::{client_number, register};
+use crate::clients::Clients;
 use crate::consumer::{Consumer, find_consumer};
 use crate::fault::ClientFault;
 use crate::queues::Queues;
 use crate::vhost::Vhost;
 use amqp_props::{Message, Text};
+use fed_journal::place::Client;
 use queue_core::{CopyNo, Holder};
 use std::alloc::{AllocError, Global};
 
@@ -32,7 +32,7 @@ pub struct Delivered {
 }
 
 /// Hands out the copy that is the first ready one.
-fn hand_over(queues: &mut Queues, name: &str, copy: CopyNo, holder: Holder, no_ack: bool)
+pub(crate) fn hand_over(queues: &mut Queues, name: &str, copy: CopyNo, holder: Holder, no_ack: bool)
     requires { ready_in name.now queues.old ≡ Some copy }
     ensures given { queues.new ≡ handed_over name.now copy holder no_ack queues.old }
     ensures names { SameNames queues.old queues.new }
@@ -41,7 +41,7 @@ fn hand_over(queues: &mut Queues, name: &str, copy: CopyNo, holder: Holder, no_a
 }
 
 /// How many copies the holder holds in the queue.
-fn held_count(queues: &Queues, name: &str, holder: Holder) -> u64
+pub(crate) fn held_count(queues: &Queues, name: &str, holder: Holder) -> u64
     ensures { result ≡ count_of_held name.now holder queues.now }
 {
     match queues.find(name) {
@@ -144,7 +144,7 @@ fn deliver_to(
 /// Hands a copy to the client for its `get`, or says why not; all is then as it was.
 fn give_to(
     alloc: Global,
-    clients: &mut Vec<Client>,
+    clients: &mut Clients,
     queues: &mut Queues,
     who: Client,
     name: &str,
@@ -152,17 +152,17 @@ fn give_to(
     no_ack: bool,
 ) -> Result<Delivered, ClientFault>
     ensures answer { IsAnswer result (offered (offer_of name.now queues.old)) }
-    ensures clients { OnOk result (clients.new.items ≡ registered who clients.old.items) }
-    ensures given { IfOk result (λ delivered. queues.new ≡ handed_over name.now delivered.copy (record { link = false; number = number_of_client who clients.old.items; part = part }) no_ack queues.old) }
+    ensures clients { OnOk result (clients.new ≡ registered who clients.old) }
+    ensures given { IfOk result (λ delivered. queues.new ≡ handed_over name.now delivered.copy (record { link = false; number = number_of_client who clients.old; part = part }) no_ack queues.old) }
     ensures names { SameNames queues.old queues.new }
-    ensures same_clients { OnErr result (clients.new.items ≡ clients.old.items) }
+    ensures same_clients { OnErr result (clients.new ≡ clients.old) }
     ensures same_queues { OnErr result (queues.new ≡ queues.old) }
 {
     let delivered = match offer(alloc, queues, name) {
         Ok(delivered) => delivered,
         Err(fault) => return Err(fault),
     };
-    let Ok(number) = client_number(clients, who) else {
+    let Ok(number) = clients.number(who) else {
         return Err(ClientFault::Memory);
     };
     let holder = Holder {
@@ -170,7 +170,7 @@ fn give_to(
         number,
         part,
     };
-    let Ok(()) = register(clients, who) else {
+    let Ok(()) = clients.register(who) else {
         return Err(ClientFault::Memory);
     };
     hand_over(queues, name, delivered.copy, holder, no_ack);

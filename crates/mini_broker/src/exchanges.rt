@@ -5,8 +5,8 @@ ghost use Rattle.std.specs.Option.{option_copied};
 ghost use Rattle.fed_journal.specs.Configuration.{predeclared_kind as kind_predeclared, predeclared_shape as shape_predeclared};
 ghost use Rattle.mini_broker.specs.Exchanges.{declared_shape, shape_of};
 
-use fed_journal::place::ExchangeShape;
 use amqp_props::ExchangeKind;
+use fed_journal::place::ExchangeShape;
 use indexmap::IndexMap;
 use std::alloc::{AllocError, Global};
 use std::marker::Model;

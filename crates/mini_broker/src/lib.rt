@@ -2,6 +2,8 @@
 #![tactic(auto)]
 
 mod bind;
+mod clients;
+mod close;
 mod consume;
 mod consumer;
 mod declare;
@@ -12,11 +14,13 @@ mod mailbox;
 mod names;
 mod publish;
 mod queues;
+mod record;
 mod settle;
 mod shared;
 mod standing;
 mod vhost;
 
+pub use clients::Clients;
 pub use consumer::Consumer;
 pub use deliver::Delivered;
 pub use exchanges::Exchanges;

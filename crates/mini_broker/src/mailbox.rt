@@ -42,6 +42,17 @@ pub enum Sweep {
         /// The copy's number.
         number: CopyNo,
     },
+    /// The copy is handed to the holder.
+    Hand {
+        /// The copy's number.
+        number: CopyNo,
+        /// Who holds it from then on.
+        holder: Holder,
+    },
+    /// The copy of that number leaves.
+    Settle(CopyNo),
+    /// The copy of that number is ready again.
+    Requeue(CopyNo),
 }
 
 /// The copies of a queue.
@@ -101,6 +112,14 @@ impl Mailbox {
         let number = self.queue.hand(holder)?;
         see(&mut self.copies, number);
         Some(number)
+    }
+
+    /// Hands the copy to the holder, if it is there.
+    pub fn hand_copy(&mut self, number: CopyNo, holder: Holder)
+        ensures { self.new ≡ handed number holder self.old }
+    {
+        self.queue.hand_copy(number, holder);
+        see(&mut self.copies, number);
     }
 
     /// Hands out the first ready copy, to the holder or for good; None exactly where none is ready.
@@ -183,6 +202,13 @@ impl Mailbox {
                 self.release(number);
             }
             Sweep::Leave { .. } | Sweep::Release { .. } => {}
+            Sweep::Hand { number, holder } => self.hand_copy(number, holder),
+            Sweep::Settle(number) => {
+                self.leave(number);
+            }
+            Sweep::Requeue(number) => {
+                self.release(number);
+            }
         }
     }
 
@@ -193,6 +219,13 @@ impl Mailbox {
     {
         let number = self.queue.first_ready()?;
         find_copy(&self.copies, number)
+    }
+
+    /// The number of the copy that `hand` would hand out now; None exactly where no copy is ready.
+    pub fn first_ready(&self) -> Option<CopyNo>
+        ensures { result ≡ first_ready self.now.rows }
+    {
+        self.queue.first_ready()
     }
 
     /// The number of ready copies.

@@ -8,7 +8,7 @@ ghost use Rattle.mini_broker.specs.Answers.{IsAnswer};
 ghost use Rattle.mini_broker.specs.Bind.{unless};
 ghost use Rattle.mini_broker.specs.Queues.{AreAbove};
 ghost use Rattle.mini_broker.specs.State.{SameNames};
-ghost use Rattle.mini_broker.specs.Publish.{publish_refusal as refusal_to_publish, reached, all_entered, with_copies, first_of, done};
+ghost use Rattle.mini_broker.specs.Publish.{publish_refusal as refusal_to_publish, reached as names_reached, all_entered, with_copies, first_of, done};
 
 use crate::fault::ClientFault;
 use crate::names::is_reserved;
@@ -107,6 +107,34 @@ fn enter_copies(
     }
 }
 
+/// Lets copies of the message enter the queues, numbered in their order.
+///
+/// # Errors
+///
+/// For want of memory; the queues are then as they were.
+pub(crate) fn enter_message(
+    alloc: Global,
+    queues: &mut Queues,
+    names: &[Text],
+    number: CopyNo,
+    message: Message,
+) -> Result<(), AllocError>
+    requires above { AreAbove number queues.old }
+    requires fits { number + length names.now < 2 ^ 64 }
+    ensures ok { OnOk result (queues.new ≡ all_entered names.now number message queues.old) }
+    ensures err { OnErr result (queues.new ≡ queues.old) }
+    ensures names { SameNames queues.old queues.new }
+{
+    let shared = match Shared::new(alloc, message) {
+        Ok(shared) => shared,
+        Err(e) => return Err(e),
+    };
+    match enter_copies(queues, names, number, &shared) {
+        Ok(()) => Ok(()),
+        Err(e) => Err(e),
+    }
+}
+
 /// Routes the message, and lets a copy enter each queue that it reaches.
 ///
 /// # Errors
@@ -132,11 +160,7 @@ fn spread(
         Err(e) => return Err(e),
     };
     let first = first_copy(number, &names);
-    let shared = match Shared::new(alloc, message) {
-        Ok(shared) => shared,
-        Err(e) => return Err(e),
-    };
-    match enter_copies(queues, &names, number, &shared) {
+    match enter_message(alloc, queues, &names, number, message) {
         Ok(()) => Ok(Accepted {
             first,
             queues: names,
@@ -164,6 +188,20 @@ impl Vhost {
         }
     }
 
+    /// The names of the queues that the message reaches, in the order of their making.
+    ///
+    /// # Errors
+    ///
+    /// For want of memory.
+    pub fn reached(&self, message: &Message) -> Result<Vec<Text>, AllocError>
+        ensures { IfOk result (λ names. names.items ≡ names_reached message.now self.now) }
+    {
+        match reach(self.alloc, &self.router, message) {
+            Ok(names) => Ok(names),
+            Err(e) => Err(e),
+        }
+    }
+
     /// Publishes a message; its copies are numbered from `number` on, in the order of their queues.
     ///
     /// # Errors
@@ -174,8 +212,8 @@ impl Vhost {
         requires above { AreAbove number self.old.queues }
         requires fits { number + length self.old.routing.objects < 2 ^ 64 }
         ensures answer { IsAnswer (done result) (unless (refusal_to_publish message.exchange self.old) (Ok tt)) }
-        ensures queues { IfOk result (λ accepted. accepted.queues.items ≡ reached message self.old) }
-        ensures first { IfOk result (λ accepted. accepted.first ≡ first_of number (reached message self.old)) }
+        ensures queues { IfOk result (λ accepted. accepted.queues.items ≡ names_reached message self.old) }
+        ensures first { IfOk result (λ accepted. accepted.first ≡ first_of number (names_reached message self.old)) }
         ensures entered { OnOk result (self.new ≡ with_copies message number self.old) }
         ensures err { OnErr result (self.new ≡ self.old) }
     {

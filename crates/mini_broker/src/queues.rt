@@ -1,15 +1,18 @@
 //! The queues of a virtual host under their names.
 
-ghost use Rattle.std.specs.Prelude.{◌≡◌, [], ◌∷◌, ◌++◌, None, map, IfSome, IfNone, OnOk, OnErr, string_bytes};
+ghost use Rattle.std.specs.Prelude.{◌≡◌, ◌==◌, [], ◌∷◌, ◌++◌, None, false, not, map, filter, IfSome, IfNone, IfOk, OnOk, OnErr, string_bytes};
 ghost use Rattle.std.specs.List.{list_any};
-ghost use Rattle.std.specs.Option.{option_copied};
+ghost use Rattle.std.specs.Option.{option_copied, option_map_or};
+ghost use Rattle.std.specs.Str.{bytes_eq};
 ghost use Rattle.indexmap.specs.IndexMap.{values};
 ghost use Rattle.mini_broker.specs.Mail.{entered, given, left, purged, swept, is_held_at as is_held_by_client};
 ghost use Rattle.mini_broker.specs.Queues.{queue_of, changed, with_mail, ready_in, ready_count, AreAbove, all_changed, is_held_in};
+ghost use Rattle.mini_broker.specs.Close.{others, owned_names, StandInTurn};
 
 use crate::mailbox::Sweep;
 use crate::shared::Shared;
 use crate::standing::StandingQueue;
+use amqp_props::Text;
 use indexmap::IndexMap;
 use queue_core::{CopyNo, Holder};
 use std::alloc::{AllocError, Global};
@@ -63,6 +66,25 @@ impl Queues {
     {
         self.table.insert(name, queue)?;
         Ok(())
+    }
+
+    /// Removes the queue of that name.
+    pub fn remove(&mut self, name: &str)
+        ensures { self.new ≡ others name.now self.old }
+    {
+        keep_others(&mut self.table, name);
+    }
+
+    /// The names of the queues that the connection has to itself.
+    ///
+    /// # Errors
+    ///
+    /// For want of memory.
+    pub fn owned(&self, alloc: Global, connection: u32) -> Result<Vec<Text>, AllocError>
+        ensures names { IfOk result (λ names. names.items ≡ owned_names connection self.now) }
+        ensures standing { IfOk result (λ names. StandInTurn names.items self.now) }
+    {
+        owned_among(alloc, &self.table, connection)
     }
 
     /// Lets a copy enter the queue, if there is one of that name.
@@ -147,4 +169,55 @@ fn sweep_table(table: &mut IndexMap<String, StandingQueue>, sweep: Sweep)
     for place in 0..table.len() {
         table[place].mail.sweep(sweep);
     }
+}
+
+/// Removes the queue of that name.
+fn keep_others(table: &mut IndexMap<String, StandingQueue>, name: &str)
+    ensures { table.new.entries ≡ filter (λ e. not (bytes_eq (string_bytes e.0) name.now)) table.old.entries }
+{
+    table.retain(|key, _| key.as_str() != name);
+}
+
+/// Whether the connection is the owner.
+fn is_owner(owner: Option<u32>, connection: u32) -> bool
+    ensures { result ≡ option_map_or (λ own. own == connection) owner false }
+{
+    match owner {
+        Some(own) => own == connection,
+        None => false,
+    }
+}
+
+/// Whether the connection has the queue to itself.
+fn is_owned(queue: &StandingQueue, connection: u32) -> bool
+    ensures { result ≡ (queue.now.options.exclusive && option_map_or (λ own. own == connection) queue.now.owner false) }
+{
+    queue.options.exclusive && is_owner(queue.owner, connection)
+}
+
+/// Adds a name as the last.
+fn add_name(alloc: Global, names: &mut Vec<Text>, name: &str) -> Result<(), AllocError>
+    ensures { OnOk result (names.new.items ≡ names.old.items ++ name.now ∷ []) }
+{
+    let own = Text::from_str(alloc, name)?;
+    names.push(own)?;
+    Ok(())
+}
+
+/// The names of the queues that the connection has to itself.
+fn owned_among(
+    alloc: Global,
+    table: &IndexMap<String, StandingQueue>,
+    connection: u32,
+) -> Result<Vec<Text>, AllocError>
+    ensures names { IfOk result (λ names. names.items ≡ owned_names connection (map (λ e. (string_bytes e.0, e.1)) table.now.entries)) }
+    ensures standing { IfOk result (λ names. StandInTurn names.items (map (λ e. (string_bytes e.0, e.1)) table.now.entries)) }
+{
+    let mut names = Vec::new(alloc);
+    for (name, queue) in table.iter() {
+        if is_owned(queue, connection) {
+            add_name(alloc, &mut names, name.as_str())?;
+        }
+    }
+    Ok(names)
 }

@@ -5,29 +5,17 @@ ghost use Rattle.mini_broker.specs.declared.mailbox.Sweep.TheVariants as sweeps;
 ghost use Rattle.mini_broker.specs.Mail.{swept, purged};
 ghost use Rattle.mini_broker.specs.Queues.{ready_count, changed, all_changed, with_mail, is_held_in};
 ghost use Rattle.mini_broker.specs.State.{SameNames};
-ghost use Rattle.mini_broker.specs.Settle.{number_among, holds as client_holds, settled, requeued, purge_answer, with_purged, all_swept};
+ghost use Rattle.mini_broker.specs.Settle.{holds as client_holds, settled, requeued, purge_answer, with_purged, all_swept};
 
-use fed_journal::place::Client;
-use crate::consumer::client_place;
 use crate::fault::ClientFault;
 use crate::mailbox::Sweep;
 use crate::queues::Queues;
 use crate::vhost::Vhost;
+use fed_journal::place::Client;
 use queue_core::CopyNo;
 
-/// The number of the client, if it has one.
-fn number_of(clients: &[Client], who: Client) -> Option<u32>
-    ensures { result ≡ number_among who clients.now }
-{
-    let place = client_place(clients, who)?;
-    match u32::try_from(place) {
-        Ok(number) => Some(number),
-        Err(_) => None,
-    }
-}
-
 /// Does what is done to every queue.
-fn sweep_all(queues: &mut Queues, sweep: Sweep)
+pub(crate) fn sweep_all(queues: &mut Queues, sweep: Sweep)
     ensures swept { queues.new ≡ all_changed (with_mail (swept sweep)) queues.old }
     ensures names { SameNames queues.old queues.new }
 {
@@ -71,7 +59,7 @@ impl Vhost {
         ensures held { result ≡ client_holds who copy self.old }
         ensures left { self.new ≡ settled who copy self.old }
     {
-        match number_of(&self.clients, who) {
+        match self.clients.find(who) {
             Some(client) => leave_held(&mut self.queues, client, copy),
             None => false,
         }
@@ -90,7 +78,7 @@ impl Vhost {
         ensures held { result ≡ client_holds who copy self.old }
         ensures ready { self.new ≡ requeued who copy self.old }
     {
-        match number_of(&self.clients, who) {
+        match self.clients.find(who) {
             Some(client) => release_held(&mut self.queues, client, copy),
             None => false,
         }
@@ -111,6 +99,13 @@ impl Vhost {
             return Err(fault);
         }
         Ok(purge_queue(&mut self.queues, name))
+    }
+
+    /// Removes each ready copy of the queue, if it stands.
+    pub fn clear_queue(&mut self, name: &str)
+        ensures { self.new ≡ with_purged name.now self.old }
+    {
+        purge_queue(&mut self.queues, name);
     }
 
     /// Marks each copy that is in a queue as stored.

@@ -4,6 +4,7 @@ ghost use Rattle.mini_broker.specs.Queues.{AreAbove};
 use super::*;
 use amqp_props::{ExchangeKind, Message, Octets, Properties, QueueOptions, Text};
 use field_tables::Table;
+use queue_core::Holder;
 use route_core::Sort;
 use std::alloc::{AllocError, Global};
 use std::test::Fail;
@@ -28,6 +29,12 @@ const SHAPE: ExchangeShape = ExchangeShape {
     kind: ExchangeKind::Direct,
     durable: true,
     internal: false,
+};
+
+const SESSION: Holder = Holder {
+    link: true,
+    number: 0,
+    part: 1,
 };
 
 fn message(alloc: Global, exchange: &str, key: &str) -> Result<Message, AllocError> {
@@ -163,5 +170,28 @@ fn purged(rt: HostRuntime) -> Result<(), Fail> {
     vhost.flush();
     assert!(rt; vhost.peek("q")?.is_some());
     assert!(rt; vhost.purge(WHO, "q") == Ok(1));
+    Ok(())
+}
+
+/// A connection that ends takes the queue along that it has to itself, with its consumers.
+#[test]
+fn closed(rt: HostRuntime) -> Result<(), Fail> {
+    let mut vhost = one_queue(rt.alloc())?;
+    vhost.consume(WHO, "q", "t", false, 1)?;
+    let names = vhost.close(1)?;
+    assert!(rt; names.len() == 1);
+    assert!(rt; vhost.queue("q").is_none());
+    assert!(rt; vhost.consumers("q") == 0);
+    Ok(())
+}
+
+/// A link takes a copy, and settles it.
+#[test]
+fn taken(rt: HostRuntime) -> Result<(), Fail> {
+    let mut vhost = published(rt.alloc())?;
+    vhost.take(1, SESSION);
+    assert!(rt; vhost.held_count("q", SESSION) == 1);
+    vhost.settle(1);
+    assert!(rt; vhost.copies("q") == 0);
     Ok(())
 }

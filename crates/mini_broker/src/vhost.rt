@@ -2,16 +2,22 @@
 
 ghost use Rattle.std.specs.Prelude.{◌≡◌, IfOk};
 ghost use Rattle.std.specs.Option.{option_map, option_and_then};
-ghost use Rattle.mini_broker.specs.Queues.{queue_of, ready_count, copy_count};
+ghost use Rattle.route_core.specs.Bindings.{has_binding as is_bound};
+ghost use Rattle.mini_broker.specs.Queues.{queue_of, ready_in, ready_count, copy_count};
+ghost use Rattle.mini_broker.specs.Deliver.{held_count as count_of_held};
+ghost use Rattle.mini_broker.specs.Settle.{holds as client_holds};
 ghost use Rattle.mini_broker.specs.Exchanges.{shape_of};
 ghost use Rattle.mini_broker.specs.Vhosts.{bare, consumer_count};
 
-use fed_journal::place::{Client, ExchangeShape};
+use crate::clients::Clients;
 use crate::consumer::Consumer;
+use crate::deliver::held_count;
 use crate::exchanges::Exchanges;
 use crate::queues::Queues;
 use amqp_props::QueueOptions;
-use route_core::Router;
+use fed_journal::place::{Client, ExchangeShape};
+use queue_core::{CopyNo, Holder};
+use route_core::{Binding, Router};
 use std::alloc::{AllocError, Global};
 use std::marker::Model;
 
@@ -22,7 +28,7 @@ pub struct Vhost {
     pub(crate) router: Router,
     pub(crate) queues: Queues,
     pub(crate) exchanges: Exchanges,
-    pub(crate) clients: Vec<Client>,
+    pub(crate) clients: Clients,
     pub(crate) consumers: Vec<Consumer>,
     pub(crate) made: u32,
     pub(crate) begun: u32,
@@ -59,7 +65,7 @@ impl Vhost {
             router: Router::new(alloc)?,
             queues: Queues::new(alloc),
             exchanges: Exchanges::new(alloc),
-            clients: Vec::new(alloc),
+            clients: Clients::new(alloc),
             consumers: Vec::new(alloc),
             made: 0,
             begun: 0,
@@ -117,5 +123,39 @@ impl Vhost {
             .iter()
             .filter(|consumer| consumer.queue.as_str() == name)
             .count() as u64
+    }
+
+    /// Whether an equal binding stands.
+    pub fn has_binding(&self, binding: &Binding) -> bool
+        ensures { result ≡ is_bound binding.now self.now.routing.bindings }
+    {
+        self.router.has_binding(binding)
+    }
+
+    /// The copy that the queue would hand out now; None exactly where no copy is ready there.
+    pub fn first_ready(&self, name: &str) -> Option<CopyNo>
+        ensures { result ≡ ready_in name.now self.now.queues }
+    {
+        match self.queues.find(name) {
+            Some(queue) => queue.mail.first_ready(),
+            None => None,
+        }
+    }
+
+    /// How many copies the holder holds in the queue; 0 where there is none of that name.
+    pub fn held_count(&self, name: &str, holder: Holder) -> u64
+        ensures { result ≡ count_of_held name.now holder self.now.queues }
+    {
+        held_count(&self.queues, name, holder)
+    }
+
+    /// Whether the client holds the copy.
+    pub fn holds(&self, who: Client, copy: CopyNo) -> bool
+        ensures { result ≡ client_holds who copy self.now }
+    {
+        match self.clients.find(who) {
+            Some(number) => self.queues.is_held_at(number, copy),
+            None => false,
+        }
     }
 }

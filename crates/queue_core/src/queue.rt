@@ -63,6 +63,13 @@ impl Queue {
         Some(copy)
     }
 
+    /// Hands the copy to the holder, which holds it from then on, if it is there.
+    pub fn hand_copy(&mut self, copy: CopyNo, holder: Holder)
+        ensures { self.new ≡ handed copy holder self.old }
+    {
+        set_hold(&mut self.rows, copy, Hold::Held(holder));
+    }
+
     /// Removes the copy; false exactly where it isn't there.
     pub fn leave(&mut self, copy: CopyNo) -> bool
         ensures there { result ≡ has copy self.old }

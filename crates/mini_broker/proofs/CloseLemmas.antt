@@ -1,0 +1,162 @@
+-- Queues that go, and connections that end.
+use Rattle.std.proofs.Common.{◌≡◌, ℕ, ◌+◌, ◌==◌, Bool, true, false, cond, not, List, [], ◌∷◌, ◌++◌, Option, Some, None, String, string_bytes, is_some, refl, ap, sym, ◌∙◌, subst, map, fold}
+use Rattle.std.specs.Prelude.{All, ◌&&◌, ◌||◌, filter}
+use Rattle.std.specs.List.{list_any, IsDistinct, AllByRecursion}
+use Rattle.std.specs.Map.{lookup, keys_of}
+use Rattle.std.specs.Str.{bytes_eq}
+use Rattle.std.specs.String.{string_eq}
+use Rattle.std.proofs.lemmas.Bool.{true≢false, false≢true}
+use Rattle.std.proofs.lemmas.Slice.Eq.{bytes_eq-Decides}
+use Rattle.std.proofs.lemmas.List.Elements.{All-filter}
+use Rattle.route_core.specs.declared.object.Sort.{Sort}
+use Rattle.route_core.specs.declared.object.Sort.TheVariants as sorts
+use Rattle.route_core.specs.declared.object.Node.{Node}
+use Rattle.route_core.specs.declared.object.Node.TheVariants as nodes
+use Rattle.route_core.specs.declared.object.Object.{Object}
+use Rattle.route_core.specs.Objects.{has, is_named, same_sort, sort_of, number_of, rises}
+use Rattle.route_core.specs.Routing.{Routing, without_object}
+use Rattle.fed_journal.specs.declared.place.Client.{Client}
+use Rattle.mini_broker.specs.declared.standing.StandingQueue.{StandingQueue}
+use Rattle.mini_broker.specs.Mail.{released_from}
+use Rattle.mini_broker.specs.Queues.{Named, queue_of, all_changed, with_mail}
+use Rattle.mini_broker.specs.Exchanges.{NamedShape}
+use Rattle.mini_broker.specs.State.{VhostState, AreRouted, SameNames}
+use Rattle.mini_broker.specs.Close.{freed_from, others, without_queue, is_owned, owned_names, StandInTurn}
+use Rattle.mini_broker.proofs.NameLemmas.{either_way, stands_mapped}
+use Rattle.mini_broker.proofs.QueueLemmas.{Entries, named}
+
+and_false : (a : Bool) → (a && false) ≡ false
+and_false true = refl
+and_false false = refl
+
+and_true : (a : Bool) → (a && true) ≡ a
+and_true true = refl
+and_true false = refl
+
+first_half : (a b : Bool) → (a && b) ≡ true → a ≡ true
+first_half true b e = refl
+first_half false b e = absurd (false≢true e)
+
+second_half : (a b : Bool) → (a && b) ≡ true → b ≡ true
+second_half true b e = e
+second_half false b e = absurd (false≢true e)
+
+-- those that pass the one test all pass the other
+any_stay : {X : Type 0} (p test : X → Bool) → ((x : X) → p x ≡ true → test x ≡ true) → (xs : List X) → list_any p (filter test xs) ≡ list_any p xs
+any_stay p test stay [] = refl
+any_stay p test stay (x ∷ xs) =
+    elim (test x) as (λ b. test x ≡ b → list_any p (cond b (x ∷ filter test xs) (filter test xs)) ≡ (p x || list_any p xs)) [
+      | true ↦ (λ _. ap (λ b. p x || b) (any_stay p test stay xs))
+      | false ↦ (λ off. elim (p x) as (λ c. p x ≡ c → list_any p (filter test xs) ≡ (c || list_any p xs)) [
+        | true ↦ (λ on. absurd (true≢false (sym (stay x on) ∙ off)))
+        | false ↦ (λ _. any_stay p test stay xs)
+      ] refl)
+    ] refl
+
+-- those that pass the one test all fail the other
+any_gone : {X : Type 0} (p test : X → Bool) → ((x : X) → p x ≡ true → test x ≡ false) → (xs : List X) → list_any p (filter test xs) ≡ false
+any_gone p test gone [] = refl
+any_gone p test gone (x ∷ xs) =
+    elim (test x) as (λ b. test x ≡ b → list_any p (cond b (x ∷ filter test xs) (filter test xs)) ≡ false) [
+      | true ↦ (λ on. elim (p x) as (λ c. p x ≡ c → (c || list_any p (filter test xs)) ≡ false) [
+        | true ↦ (λ is. absurd (true≢false (sym on ∙ gone x is)))
+        | false ↦ (λ _. any_gone p test gone xs)
+      ] refl)
+      | false ↦ (λ _. any_gone p test gone xs)
+    ] refl
+
+any_some : (name : List ℕ) (queues : List Named) → is_some (queue_of name queues) ≡ list_any (λ q. bytes_eq name q.0) queues
+any_some name [] = refl
+any_some name (q ∷ queues) =
+    elim (bytes_eq name q.0) as (λ b. is_some (cond b (Some q.1) (queue_of name queues)) ≡ (b || list_any (λ q. bytes_eq name q.0) queues)) [ true ↦ refl | false ↦ any_some name queues ]
+
+-- what stands once a queue is gone
+pub stands_others : (other name : List ℕ) (queues : List Named) → is_some (queue_of other (others name queues)) ≡ (is_some (queue_of other queues) && not (bytes_eq other name))
+stands_others other name queues =
+    any_some other (others name queues)
+    ∙ elim (bytes_eq other name) as (λ b. bytes_eq other name ≡ b → list_any (λ q. bytes_eq other q.0) (others name queues) ≡ (list_any (λ q. bytes_eq other q.0) queues && not b)) [
+        | true ↦ (λ is. any_gone (λ q. bytes_eq other q.0) (λ q. not (bytes_eq q.0 name)) (λ q on. tested q on ∙ ap not is) queues ∙ sym (and_false (list_any (λ q. bytes_eq other q.0) queues)))
+        | false ↦ (λ is. any_stay (λ q. bytes_eq other q.0) (λ q. not (bytes_eq q.0 name)) (λ q on. tested q on ∙ ap not is) queues ∙ sym (and_true (list_any (λ q. bytes_eq other q.0) queues)))
+      ] refl
+    ∙ ap (λ b. b && not (bytes_eq other name)) (sym (any_some other queues))
+  where
+    tested : (q : Named) → bytes_eq other q.0 ≡ true → not (bytes_eq q.0 name) ≡ not (bytes_eq other name)
+    tested q on = ap (λ n. not (bytes_eq n name)) (sym ((bytes_eq-Decides other q.0).0 on))
+
+-- what the router knows once a queue is gone
+known_others : (other name : List ℕ) (objects : List Object) → has sorts.Queue other (filter (λ o. not (is_named sorts.Queue name o)) objects) ≡ (has sorts.Queue other objects && not (bytes_eq other name))
+known_others other name objects =
+    elim (bytes_eq other name) as (λ b. bytes_eq other name ≡ b → has sorts.Queue other (filter (λ o. not (is_named sorts.Queue name o)) objects) ≡ (has sorts.Queue other objects && not b)) [
+      | true ↦ (λ is. any_gone (is_named sorts.Queue other) (λ o. not (is_named sorts.Queue name o)) (λ o on. tested o on ∙ ap not is) objects ∙ sym (and_false (has sorts.Queue other objects)))
+      | false ↦ (λ is. any_stay (is_named sorts.Queue other) (λ o. not (is_named sorts.Queue name o)) (λ o on. tested o on ∙ ap not is) objects ∙ sym (and_true (has sorts.Queue other objects)))
+    ] refl
+  where
+    tested : (o : Object) → is_named sorts.Queue other o ≡ true → not (is_named sorts.Queue name o) ≡ not (bytes_eq other name)
+    tested o on =
+        ap (λ b. not (b && bytes_eq o.name name)) (first_half (same_sort (sort_of o.node) sorts.Queue) (bytes_eq o.name other) on)
+        ∙ ap (λ n. not (bytes_eq n name)) ((bytes_eq-Decides o.name other).0 (second_half (same_sort (sort_of o.node) sorts.Queue) (bytes_eq o.name other) on))
+
+-- it knows each exchange still
+known_exchanges : (other name : List ℕ) (objects : List Object) → has sorts.Exchange other (filter (λ o. not (is_named sorts.Queue name o)) objects) ≡ has sorts.Exchange other objects
+known_exchanges other name objects =
+    any_stay (is_named sorts.Exchange other) (λ o. not (is_named sorts.Queue name o)) (λ o on. differs (sort_of o.node) (bytes_eq o.name other) (bytes_eq o.name name) on) objects
+  where
+    differs : (sort : Sort) (a b : Bool) → (same_sort sort sorts.Exchange && a) ≡ true → not (same_sort sort sorts.Queue && b) ≡ true
+    differs sorts.Queue a b e = absurd (false≢true e)
+    differs sorts.Exchange a b e = refl
+
+-- a queue goes
+pub routed_others : (r : Routing) (queues : List Named) (exchanges : List NamedShape) (made : ℕ) (name : List ℕ) → AreRouted r queues exchanges made → AreRouted (without_object sorts.Queue name r) (others name queues) exchanges made
+routed_others r queues exchanges made name known = record {
+  queue_names = λ other. known_others other name r.objects ∙ ap (λ b. b && not (bytes_eq other name)) (known.queue_names other) ∙ sym (stands_others other name queues);
+  exchange_names = λ other. known_exchanges other name r.objects ∙ known.exchange_names other;
+  numbers = All-filter (λ o. not (is_named sorts.Queue name o)) (λ o. rises (number_of o.node) (Some made) ≡ true) r.objects known.numbers;
+}
+
+-- no queue comes or goes as a connection lets go of its copies
+pub freed_names : (connection number : ℕ) (clients : List Client) (queues : List Named) → SameNames queues (freed_from connection number clients queues)
+freed_names connection number [] queues = λ name. refl
+freed_names connection number (client ∷ clients) queues =
+    λ name. freed_names connection (number + 1) clients (cond (client.connection == connection) (all_changed (with_mail (released_from number)) queues) queues) name
+    ∙ elim (client.connection == connection) as (λ b. is_some (queue_of name (cond b (all_changed (with_mail (released_from number)) queues) queues)) ≡ is_some (queue_of name queues)) [
+        | true ↦ stands_mapped name (with_mail (released_from number)) queues
+        | false ↦ refl
+      ]
+
+-- ---- queues that go one after the other
+
+pub turn_same : (names : List (List ℕ)) (was now : List Named) → SameNames was now → StandInTurn names was → StandInTurn names now
+turn_same [] was now same h = tt
+turn_same (name ∷ names) was now same h =
+    (same name ∙ h.0, turn_same names (others name was) (others name now) (λ other. stands_others other name now ∙ ap (λ b. b && not (bytes_eq other name)) (same other) ∙ sym (stands_others other name was)) h.1)
+
+turn_more : (names : List (List ℕ)) (q : Named) (queues : List Named) → StandInTurn names queues → StandInTurn names (q ∷ queues)
+turn_more [] q queues h = tt
+turn_more (name ∷ names) q queues h =
+    (
+      elim (bytes_eq name q.0) as (λ b. is_some (cond b (Some q.1) (queue_of name queues)) ≡ true) [ true ↦ refl | false ↦ h.0 ],
+      elim (bytes_eq q.0 name) as (λ b. StandInTurn names (cond (not b) (q ∷ others name queues) (others name queues))) [ true ↦ h.1 | false ↦ turn_more names q (others name queues) h.1 ]
+    )
+
+itself : (name : List ℕ) → bytes_eq name name ≡ true
+itself name = (bytes_eq-Decides name name).1 refl
+
+all_others : {Z : Type 0} (name : List ℕ) (es : Entries Z) → AllByRecursion (λ (key : String Z). bytes_eq name (string_bytes key) ≡ false) (keys_of es) → others name (named es) ≡ named es
+all_others name [] apart = refl
+all_others name (e ∷ es) apart =
+    ap (λ b. cond (not b) ((string_bytes e.0, e.1) ∷ others name (named es)) (others name (named es))) (either_way (string_bytes e.0) name ∙ apart.0)
+    ∙ ap (λ rest. (string_bytes e.0, e.1) ∷ rest) (all_others name es apart.1)
+
+-- no two queues of the table have one name
+pub owned_stand : {Z : Type 0} (connection : ℕ) (es : Entries Z) → IsDistinct string_eq (keys_of es) → StandInTurn (owned_names connection (named es)) (named es)
+unfolding IsDistinct
+owned_stand connection [] distinct = tt
+owned_stand connection (e ∷ es) distinct =
+    let rest = owned_stand connection es distinct.1 in
+    elim (is_owned connection (string_bytes e.0, e.1)) as (λ b. StandInTurn (map (λ q. q.0) (cond b ((string_bytes e.0, e.1) ∷ filter (is_owned connection) (named es)) (filter (is_owned connection) (named es)))) (named (e ∷ es))) [
+      | true ↦ (
+        ap (λ b. is_some (cond b (Some e.1) (queue_of (string_bytes e.0) (named es)))) (itself (string_bytes e.0)),
+        subst (StandInTurn (owned_names connection (named es))) (sym (ap (λ b. cond (not b) ((string_bytes e.0, e.1) ∷ others (string_bytes e.0) (named es)) (others (string_bytes e.0) (named es))) (itself (string_bytes e.0)) ∙ all_others (string_bytes e.0) es distinct.0)) rest
+      )
+      | false ↦ turn_more (owned_names connection (named es)) (string_bytes e.0, e.1) (named es) rest
+    ]
