@@ -151,14 +151,14 @@ apart-name q n ns true on none some = absurd (true≢false (sym some ∙ ap (λ 
 apart-name q n ns false off none some = refl
 
 -- a queue in the list, by its name
-record IsAmong (e : Named) (queues : List Named) : Type 0 where
-  name : list_any (same_text e.0) (map (λ (x : Named). x.0) queues) ≡ true
-  found : queue_of e.0 queues ≡ Some e.1
+pub record IsAmong (e : Named) (queues : List Named) : Type 0 where
+  pub name : list_any (same_text e.0) (map (λ (x : Named). x.0) queues) ≡ true
+  pub found : queue_of e.0 queues ≡ Some e.1
 
-among-head : (e : Named) (queues : List Named) → IsAmong e (e ∷ queues)
+pub among-head : (e : Named) (queues : List Named) → IsAmong e (e ∷ queues)
 among-head e queues = record { name = or_left (same_text e.0 e.0) (list_any (same_text e.0) (map (λ (x : Named). x.0) queues)) (same_text-refl e.0); found = found-head e queues }
 
-among-later : (e d : Named) (queues : List Named) → list_any (same_text d.0) (map (λ (x : Named). x.0) queues) ≡ false → IsAmong e queues → IsAmong e (d ∷ queues)
+pub among-later : (e d : Named) (queues : List Named) → list_any (same_text d.0) (map (λ (x : Named). x.0) queues) ≡ false → IsAmong e queues → IsAmong e (d ∷ queues)
 among-later e d queues once a =
     let off : same_text d.0 e.0 ≡ false = apart-name e.0 d.0 (map (λ (x : Named). x.0) queues) (same_text d.0 e.0) refl once a.name in
     record {

@@ -12,13 +12,16 @@ pub mod FreedRows
 pub mod HeldBy
 pub mod HeldHome
 pub mod Holding
+pub mod HostLemmas
 pub mod Matching
 pub mod Names
 pub mod Publications
+pub mod OwnedNames
 pub mod PublishedStep
 pub mod Questions
 pub mod QueueRows
 pub mod Reached
+pub mod RecordLemmas
 pub mod Routed
 pub mod Sites
 pub mod Tables

@@ -1,3 +1,4 @@
+pub mod Asked
 pub mod Hosts
 pub mod Recorded
 pub mod Suits

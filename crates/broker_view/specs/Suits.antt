@@ -1,8 +1,9 @@
 -- What an entry needs in the journal before it.
-use Rattle.std.specs.Prelude.{◌≡◌, ◌+◌, ℕ, List, [], ◌∷◌, ◌++◌, true, false, None, Some, is_some}
+use Rattle.std.specs.List.{list_all}
+use Rattle.std.specs.Prelude.{◌≡◌, ◌+◌, ℕ, Bool, List, [], ◌∷◌, ◌++◌, true, false, None, Some, is_some}
 use Rattle.std.specs.Str.{bytes_eq}
 use Rattle.fed_journal.specs.declared.entry.Entry.{Entry}
-use Rattle.fed_journal.specs.declared.entry.Entry.TheVariants.{MadeQueue, MadeExchange, GoneQueue, Published, Took, Consumed, Delivered, Acked, Rejected, Requeued}
+use Rattle.fed_journal.specs.declared.entry.Entry.TheVariants.{Begun, MadeQueue, MadeExchange, GoneQueue, Published, Took, Consumed, Delivered, Acked, Rejected, Requeued}
 use Rattle.fed_journal.specs.Configuration.{queue_options, exchange_shape}
 use Rattle.fed_journal.specs.Routes.{routes}
 use Rattle.fed_journal.specs.Copies.{Ready, copy_count, standing}
@@ -10,8 +11,14 @@ use Rattle.fed_journal.specs.Holds.{first_ready, is_held_by}
 use Rattle.fed_journal.specs.Consumers as journal
 use Rattle.mini_broker.specs.Publish.{first_of}
 
--- a queue or an exchange is made where none of that name stands, a queue that goes stands, a message reaches the queues that its route gives, a copy is handed out that is ready, a tag is new, and a client answers for what it holds
+-- a broker's beginning
+abbrev pub is_begun : Entry → Bool
+is_begun (Begun broker cluster kept) = true
+is_begun _ = false
+
+-- brokers begin before all else, a queue or an exchange is made where none of that name stands, a queue that goes stands, a message reaches the queues that its route gives, a copy is handed out that is ready, a tag is new, and a client answers for what it holds
 abbrev pub Suits : List Entry → Entry → Type 0
+Suits J (Begun broker cluster kept) = list_all is_begun J ≡ true
 Suits J (MadeQueue place queue options owner) = queue_options J place queue ≡ None
 Suits J (MadeExchange place exchange shape) = (exchange_shape J place exchange ≡ None) × (bytes_eq exchange [] ≡ false)
 Suits J (GoneQueue place queue) = is_some (queue_options J place queue) ≡ true

@@ -2,6 +2,7 @@
 #![tactic(auto)]
 
 pub mod host;
+pub mod run;
 mod laws;
 mod laws_configured;
 mod laws_consuming;

@@ -1,0 +1,54 @@
+-- The hosts of a run by their brokers.
+use Rattle.std.proofs.Common.{◌≡◌, ℕ, List, [], ◌∷◌, ◌++◌, Bool, true, false, cond, Option, Some, None, is_some, refl, sym, ap, subst, ◌∙◌, find, map}
+use Rattle.std.specs.Prelude.{◌||◌, ◌&&◌, All, codes}
+use Rattle.std.specs.List.{list_any}
+use Rattle.std.proofs.lemmas.Option.{none-some, same_Some}
+use Rattle.std.proofs.lemmas.List.Elements.{All-head, All-tail}
+use Rattle.fed_journal.specs.declared.place.Place.{Place}
+use Rattle.fed_journal.specs.declared.entry.Entry.{Entry}
+use Rattle.fed_journal.specs.Names.{same_text}
+use Rattle.fed_journal.specs.Configuration.{is_broker, is_place}
+use Rattle.mini_broker.specs.State.{VhostState}
+use Rattle.broker_view.specs.declared.host.Host.{Host}
+use Rattle.broker_view.specs.Hosts.{place_of, recorded_at, AreViews}
+use Rattle.broker_view.specs.Recorded.{recorded}
+use Rattle.broker_view.specs.View.{IsView}
+use Rattle.broker_view.proofs.Names.{same_text-true}
+
+pub find-any : {X : Type 0} (test : X → Bool) (xs : List X) → is_some (find test xs) ≡ list_any test xs
+find-any test [] = refl
+find-any test (x ∷ xs) = elim (test x) as (λ b. is_some (cond b (Some x) (find test xs)) ≡ (b || list_any test xs)) [ true ↦ refl | false ↦ find-any test xs ]
+
+pub known-broker : (J : List Entry) (hosts : List Host) (b : List ℕ) → AreViews J hosts → is_some (find (λ (host : Host). same_text host.broker b) hosts) ≡ is_broker J b
+known-broker J hosts b views = find-any (λ (host : Host). same_text host.broker b) hosts ∙ views.brokers b
+
+pub known-place : (J : List Entry) (hosts : List Host) (p : Place) (o : Option Host) → AreViews J hosts → same_text p.vhost (codes "/") ≡ true → o ≡ find (λ (host : Host). same_text host.broker p.broker) hosts → is_some o ≡ is_place J p
+unfolding is_place
+known-place J hosts p o views slash is = ap is_some is ∙ known-broker J hosts p.broker views ∙ sym (ap (λ b. b && is_broker J p.broker) slash)
+
+pub other-place : (J : List Entry) (p : Place) → same_text p.vhost (codes "/") ≡ false → false ≡ is_place J p
+unfolding is_place
+other-place J p off = sym (ap (λ b. b && is_broker J p.broker) off)
+
+record IsFound (b : List ℕ) (P : Host → Type 0) (host : Host) : Type 0 where
+  name : same_text host.broker b ≡ true
+  holds : P host
+
+found-by : (b : List ℕ) (P : Host → Type 0) (h host : Host) (rest : Option Host) (c : Bool) → same_text h.broker b ≡ c → cond c (Some h) rest ≡ Some host → P h → (rest ≡ Some host → IsFound b P host) → IsFound b P host
+found-by b P h host rest true on is holds later = let same : h ≡ host = same_Some h host is in subst (IsFound b P) same (record { name = on; holds = holds })
+found-by b P h host rest false off is holds later = later is
+
+found-all : (b : List ℕ) (P : Host → Type 0) (hosts : List Host) (host : Host) → All P hosts → find (λ (h : Host). same_text h.broker b) hosts ≡ Some host → IsFound b P host
+found-all b P [] host all is = absurd (none-some host is)
+found-all b P (h ∷ hosts) host all is = found-by b P h host (find (λ (x : Host). same_text x.broker b) hosts) (same_text h.broker b) refl is (All-head P h hosts all) (found-all b P hosts host (All-tail P h hosts all))
+
+-- the virtual host of the place
+pub view-place : (J : List Entry) (hosts : List Host) (p : Place) (host : Host) → AreViews J hosts → same_text p.vhost (codes "/") ≡ true → Some host ≡ find (λ (h : Host). same_text h.broker p.broker) hosts → IsView J p host.vhost
+view-place J hosts p host views slash is =
+    let f : IsFound p.broker (λ (h : Host). IsView J (place_of h.broker) h.vhost) host = found-all p.broker (λ (h : Host). IsView J (place_of h.broker) h.vhost) hosts host views.views (sym is) in
+    subst (λ b. IsView J (record { broker = b; vhost = p.vhost }) host.vhost) (same_text-true host.broker p.broker f.name)
+    (subst (λ v. IsView J (record { broker = host.broker; vhost = v }) host.vhost) (sym (same_text-true p.vhost (codes "/") slash)) f.holds)
+
+-- what is recorded of a host
+pub recorded-as : (link : ℕ) (e d : Entry) (host : Host) (v : VhostState) → e ≡ d → v ≡ recorded link (place_of host.broker) d host.vhost → record host { vhost = v } ≡ recorded_at link e host
+recorded-as link e d host v is k = λ i. record host { vhost = (k ∙ ap (λ x. recorded link (place_of host.broker) x host.vhost) (sym is)) i }

@@ -1,0 +1,32 @@
+-- What the calls of a virtual host need, as the entry suits the journal.
+use Rattle.std.proofs.Common.{◌≡◌, ℕ, ◌+◌, ◌<◌, ◌≤◌, ◌^◌, List, [], ◌∷◌, length, Bool, true, false, cond, Option, Some, None, is_some, arith, refl, sym, ap, subst, ◌∙◌}
+use Rattle.std.specs.Prelude.{All}
+use Rattle.std.proofs.lemmas.List.Elements.{All-nil}
+use Rattle.fed_journal.specs.declared.place.Place.{Place}
+use Rattle.fed_journal.specs.declared.place.Client.{Client}
+use Rattle.fed_journal.specs.declared.entry.Publication.{Publication}
+use Rattle.fed_journal.specs.declared.entry.Entry.{Entry}
+use Rattle.fed_journal.specs.declared.entry.Entry.TheVariants.{Published, Delivered}
+use Rattle.fed_journal.specs.Names.{same_place}
+use Rattle.fed_journal.specs.Copies.{copy_count}
+use Rattle.fed_journal.specs.Holds.{first_ready}
+use Rattle.mini_broker.specs.Publish.{first_of}
+use Rattle.mini_broker.specs.Queues.{ready_in, AreAbove}
+use Rattle.mini_broker.specs.Record.{with_handed}
+use Rattle.mini_broker.specs.State.{VhostState}
+use Rattle.broker_view.specs.declared.host.Host.{Host}
+use Rattle.broker_view.specs.Hosts.{place_of, recorded_at, IsRecordable}
+use Rattle.broker_view.specs.Suits.{Suits}
+use Rattle.broker_view.proofs.Names.{same_place-true}
+use Rattle.broker_view.proofs.Questions.{first_ready-is}
+use Rattle.broker_view.proofs.HostLemmas.{recorded-as}
+
+pub ready-at : (host : Host) (e : Entry) → IsRecordable host e → (place : Place) (client : Client) (tag queue : List ℕ) (copy : ℕ) (no_ack : Bool) → Delivered place client tag queue copy no_ack ≡ e → same_place place (place_of host.broker) ≡ true → ready_in queue host.vhost.queues ≡ Some copy
+ready-at host e r place client tag queue copy no_ack is here =
+    let suits : first_ready r.journal place queue ≡ Some copy = subst (Suits r.journal) (sym is) r.suits in
+    first_ready-is r.journal (place_of host.broker) host.vhost queue r.view.copies
+    ∙ ap (λ p. first_ready r.journal p queue) (sym (same_place-true place (place_of host.broker) here)) ∙ suits
+
+pub handed-as : (link : ℕ) (e : Entry) (host : Host) (v : VhostState) (place : Place) (client : Client) (tag queue : List ℕ) (copy : ℕ) (no_ack : Bool) → Delivered place client tag queue copy no_ack ≡ e → same_place place (place_of host.broker) ≡ true → v ≡ with_handed client tag queue copy no_ack host.vhost → record host { vhost = v } ≡ recorded_at link e host
+handed-as link e host v place client tag queue copy no_ack is here k =
+    recorded-as link e (Delivered place client tag queue copy no_ack) host v (sym is) (k ∙ sym (ap (λ b. cond b (with_handed client tag queue copy no_ack host.vhost) host.vhost) here))
