@@ -1,5 +1,5 @@
 -- What is refused is refused as it should be.
-use Rattle.std.proofs.Common.{◌≡◌, refl, sym, Ok, Err, Result}
+use Rattle.std.proofs.Common.{◌≡◌, refl, Ok, Err, Result}
 use Rattle.mini_broker.specs.declared.fault.ClientFault.{ClientFault}
 use Rattle.mini_broker.specs.declared.fault.ClientFault.TheVariants.{Refused, NoConsumer, Busy, Empty, Memory}
 use Rattle.mini_broker.specs.Answers.{IsAnswer}

@@ -1,8 +1,8 @@
 -- Queues that go, and connections that end.
-use Rattle.std.proofs.Common.{◌≡◌, ℕ, ◌+◌, ◌==◌, Bool, true, false, cond, not, List, [], ◌∷◌, ◌++◌, Option, Some, None, String, string_bytes, is_some, refl, ap, sym, ◌∙◌, subst, map, fold}
-use Rattle.std.specs.Prelude.{All, ◌&&◌, ◌||◌, filter}
+use Rattle.std.proofs.Common.{◌≡◌, ℕ, ◌+◌, ◌==◌, Bool, true, false, cond, not, List, [], ◌∷◌, Some, String, string_bytes, is_some, refl, ap, sym, ◌∙◌, subst, map}
+use Rattle.std.specs.Prelude.{◌&&◌, ◌||◌, filter}
 use Rattle.std.specs.List.{list_any, IsDistinct, AllByRecursion}
-use Rattle.std.specs.Map.{lookup, keys_of}
+use Rattle.std.specs.Map.{keys_of}
 use Rattle.std.specs.Str.{bytes_eq}
 use Rattle.std.specs.String.{string_eq}
 use Rattle.std.proofs.lemmas.Bool.{true≢false, false≢true}
@@ -10,18 +10,15 @@ use Rattle.std.proofs.lemmas.Slice.Eq.{bytes_eq-Decides}
 use Rattle.std.proofs.lemmas.List.Elements.{All-filter}
 use Rattle.route_core.specs.declared.object.Sort.{Sort}
 use Rattle.route_core.specs.declared.object.Sort.TheVariants as sorts
-use Rattle.route_core.specs.declared.object.Node.{Node}
-use Rattle.route_core.specs.declared.object.Node.TheVariants as nodes
 use Rattle.route_core.specs.declared.object.Object.{Object}
 use Rattle.route_core.specs.Objects.{has, is_named, same_sort, sort_of, number_of, rises}
 use Rattle.route_core.specs.Routing.{Routing, without_object}
 use Rattle.fed_journal.specs.declared.place.Client.{Client}
-use Rattle.mini_broker.specs.declared.standing.StandingQueue.{StandingQueue}
 use Rattle.mini_broker.specs.Mail.{released_from}
 use Rattle.mini_broker.specs.Queues.{Named, queue_of, all_changed, with_mail}
 use Rattle.mini_broker.specs.Exchanges.{NamedShape}
-use Rattle.mini_broker.specs.State.{VhostState, AreRouted, SameNames}
-use Rattle.mini_broker.specs.Close.{freed_from, others, without_queue, is_owned, owned_names, StandInTurn}
+use Rattle.mini_broker.specs.State.{AreRouted, SameNames}
+use Rattle.mini_broker.specs.Close.{freed_from, others, is_owned, owned_names, StandInTurn}
 use Rattle.mini_broker.proofs.NameLemmas.{either_way, stands_mapped}
 use Rattle.mini_broker.proofs.QueueLemmas.{Entries, named}
 
@@ -75,9 +72,9 @@ pub stands_others : (other name : List ℕ) (queues : List Named) → is_some (q
 stands_others other name queues =
     any_some other (others name queues)
     ∙ elim (bytes_eq other name) as (λ b. bytes_eq other name ≡ b → list_any (λ q. bytes_eq other q.0) (others name queues) ≡ (list_any (λ q. bytes_eq other q.0) queues && not b)) [
-        | true ↦ (λ is. any_gone (λ q. bytes_eq other q.0) (λ q. not (bytes_eq q.0 name)) (λ q on. tested q on ∙ ap not is) queues ∙ sym (and_false (list_any (λ q. bytes_eq other q.0) queues)))
-        | false ↦ (λ is. any_stay (λ q. bytes_eq other q.0) (λ q. not (bytes_eq q.0 name)) (λ q on. tested q on ∙ ap not is) queues ∙ sym (and_true (list_any (λ q. bytes_eq other q.0) queues)))
-      ] refl
+      | true ↦ (λ is. any_gone (λ q. bytes_eq other q.0) (λ q. not (bytes_eq q.0 name)) (λ q on. tested q on ∙ ap not is) queues ∙ sym (and_false (list_any (λ q. bytes_eq other q.0) queues)))
+      | false ↦ (λ is. any_stay (λ q. bytes_eq other q.0) (λ q. not (bytes_eq q.0 name)) (λ q on. tested q on ∙ ap not is) queues ∙ sym (and_true (list_any (λ q. bytes_eq other q.0) queues)))
+    ] refl
     ∙ ap (λ b. b && not (bytes_eq other name)) (sym (any_some other queues))
   where
     tested : (q : Named) → bytes_eq other q.0 ≡ true → not (bytes_eq q.0 name) ≡ not (bytes_eq other name)
@@ -119,9 +116,9 @@ freed_names connection number [] queues = λ name. refl
 freed_names connection number (client ∷ clients) queues =
     λ name. freed_names connection (number + 1) clients (cond (client.connection == connection) (all_changed (with_mail (released_from number)) queues) queues) name
     ∙ elim (client.connection == connection) as (λ b. is_some (queue_of name (cond b (all_changed (with_mail (released_from number)) queues) queues)) ≡ is_some (queue_of name queues)) [
-        | true ↦ stands_mapped name (with_mail (released_from number)) queues
-        | false ↦ refl
-      ]
+      | true ↦ stands_mapped name (with_mail (released_from number)) queues
+      | false ↦ refl
+    ]
 
 -- ---- queues that go one after the other
 
@@ -132,11 +129,10 @@ turn_same (name ∷ names) was now same h =
 
 turn_more : (names : List (List ℕ)) (q : Named) (queues : List Named) → StandInTurn names queues → StandInTurn names (q ∷ queues)
 turn_more [] q queues h = tt
-turn_more (name ∷ names) q queues h =
-    (
-      elim (bytes_eq name q.0) as (λ b. is_some (cond b (Some q.1) (queue_of name queues)) ≡ true) [ true ↦ refl | false ↦ h.0 ],
-      elim (bytes_eq q.0 name) as (λ b. StandInTurn names (cond (not b) (q ∷ others name queues) (others name queues))) [ true ↦ h.1 | false ↦ turn_more names q (others name queues) h.1 ]
-    )
+turn_more (name ∷ names) q queues h = (
+  elim (bytes_eq name q.0) as (λ b. is_some (cond b (Some q.1) (queue_of name queues)) ≡ true) [ true ↦ refl | false ↦ h.0 ],
+  elim (bytes_eq q.0 name) as (λ b. StandInTurn names (cond (not b) (q ∷ others name queues) (others name queues))) [ true ↦ h.1 | false ↦ turn_more names q (others name queues) h.1 ],
+)
 
 itself : (name : List ℕ) → bytes_eq name name ≡ true
 itself name = (bytes_eq-Decides name name).1 refl
@@ -156,7 +152,7 @@ owned_stand connection (e ∷ es) distinct =
     elim (is_owned connection (string_bytes e.0, e.1)) as (λ b. StandInTurn (map (λ q. q.0) (cond b ((string_bytes e.0, e.1) ∷ filter (is_owned connection) (named es)) (filter (is_owned connection) (named es)))) (named (e ∷ es))) [
       | true ↦ (
         ap (λ b. is_some (cond b (Some e.1) (queue_of (string_bytes e.0) (named es)))) (itself (string_bytes e.0)),
-        subst (StandInTurn (owned_names connection (named es))) (sym (ap (λ b. cond (not b) ((string_bytes e.0, e.1) ∷ others (string_bytes e.0) (named es)) (others (string_bytes e.0) (named es))) (itself (string_bytes e.0)) ∙ all_others (string_bytes e.0) es distinct.0)) rest
+        subst (StandInTurn (owned_names connection (named es))) (sym (ap (λ b. cond (not b) ((string_bytes e.0, e.1) ∷ others (string_bytes e.0) (named es)) (others (string_bytes e.0) (named es))) (itself (string_bytes e.0)) ∙ all_others (string_bytes e.0) es distinct.0)) rest,
       )
       | false ↦ turn_more (owned_names connection (named es)) (string_bytes e.0, e.1) (named es) rest
     ]

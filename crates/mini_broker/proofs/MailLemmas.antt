@@ -1,11 +1,9 @@
 -- What keeps a message for each copy of a queue.
-use Rattle.std.proofs.Common.{◌≡◌, ℕ, ◌==◌, Bool, true, false, cond, not, List, [], ◌∷◌, ◌++◌, Option, Some, None, is_some, Bor, refl, ap, sym, ◌∙◌, subst, arith, eq-eqb}
+use Rattle.std.proofs.Common.{◌≡◌, ℕ, ◌==◌, Bool, true, false, cond, not, List, [], ◌∷◌, Option, Some, None, is_some, Bor, refl, ap, sym, ◌∙◌, eq-eqb}
 use Rattle.std.specs.Prelude.{map, filter, find, All, ◌||◌}
-use Rattle.std.specs.List.{list_any}
 use Rattle.std.specs.Option.{option_map, option_and_then, option_copied}
 use Rattle.std.proofs.lemmas.Bool.{true≢false, false≢true}
-use Rattle.std.proofs.lemmas.Bool.Decides.{nat_tests}
-use Rattle.std.proofs.lemmas.List.Elements.{All-nil, All-cons, All-head, All-tail, All-push, All-filter, All-map, All-weaker}
+use Rattle.std.proofs.lemmas.List.Elements.{All-nil, All-cons, All-head, All-tail, All-filter, All-map, All-weaker}
 use Rattle.queue_core.specs.declared.rows.Row.{Row}
 use Rattle.queue_core.specs.declared.rows.Hold.{Hold}
 use Rattle.queue_core.specs.declared.rows.Hold.TheVariants.{Ready, Held}

@@ -1,6 +1,6 @@
 -- Tables under names, and what the router knows of them.
-use Rattle.std.proofs.Common.{◌≡◌, ℕ, ◌+◌, ◌<◌, Bool, true, false, cond, not, List, [], ◌∷◌, ◌++◌, Option, Some, None, String, string_bytes, is_some, refl, ap, sym, ◌∙◌, subst, arith, map}
-use Rattle.std.specs.Prelude.{All, ◌||◌, ◌&&◌, if◌then◌else◌, codes, nat_lt}
+use Rattle.std.proofs.Common.{◌≡◌, ℕ, ◌+◌, Bool, true, false, cond, List, [], ◌∷◌, ◌++◌, Option, Some, None, String, string_bytes, is_some, refl, ap, sym, ◌∙◌, arith, map}
+use Rattle.std.specs.Prelude.{◌||◌, if◌then◌else◌, codes, nat_lt}
 use Rattle.std.specs.List.{list_any}
 use Rattle.std.specs.Map.{lookup}
 use Rattle.std.specs.Str.{bytes_eq}
@@ -9,14 +9,10 @@ use Rattle.std.proofs.lemmas.Bool.{true≢false, false≢true}
 use Rattle.std.proofs.lemmas.Bool.Decides.{nat_tests}
 use Rattle.std.proofs.lemmas.Slice.Eq.{bytes_eq-Decides}
 use Rattle.std.proofs.lemmas.List.Elements.{All-push, All-weaker, All-from_recursion}
-use Rattle.route_core.specs.declared.object.Sort.{Sort}
 use Rattle.route_core.specs.declared.object.Sort.TheVariants as sorts
-use Rattle.route_core.specs.declared.object.Node.{Node}
 use Rattle.route_core.specs.declared.object.Node.TheVariants as nodes
-use Rattle.route_core.specs.declared.object.Object.{Object}
 use Rattle.route_core.specs.Objects.{has, is_named, number_of, rises}
-use Rattle.route_core.specs.Routing.{Routing, predeclared, object_named, with_object, IsNext, stands}
-use Rattle.amqp_props.specs.declared.link.QueueOptions.{QueueOptions}
+use Rattle.route_core.specs.Routing.{Routing, predeclared, object_named, with_object, stands}
 use Rattle.amqp_props.specs.declared.link.ExchangeKind.{ExchangeKind}
 use Rattle.amqp_props.specs.declared.link.ExchangeKind.TheVariants.{Direct, Fanout, Headers, Topic}
 use Rattle.fed_journal.specs.declared.place.ExchangeShape.{ExchangeShape}

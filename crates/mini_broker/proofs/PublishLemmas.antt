@@ -1,8 +1,7 @@
 -- Copies that enter, and that leave again for want of memory.
-use Rattle.std.proofs.Common.{◌≡◌, ℕ, ◌+◌, ◌<◌, ◌==◌, Bool, true, false, cond, not, List, [], ◌∷◌, ◌++◌, is_some, refl, ap, sym, ◌∙◌, subst, arith, eq-eqb}
+use Rattle.std.proofs.Common.{◌≡◌, ℕ, ◌+◌, ◌<◌, ◌==◌, Bool, true, false, cond, not, List, [], ◌∷◌, ◌++◌, refl, ap, ◌∙◌, arith, eq-eqb}
 use Rattle.std.specs.Prelude.{All, filter}
 use Rattle.std.specs.Str.{bytes_eq}
-use Rattle.std.proofs.lemmas.Bool.{true≢false, false≢true}
 use Rattle.std.proofs.lemmas.Bool.Decides.{nat_tests}
 use Rattle.std.proofs.lemmas.List.Elements.{All-nil, All-cons, All-head, All-tail, All-push, All-weaker}
 use Rattle.amqp_props.specs.declared.message.Message.{Message}
@@ -11,7 +10,7 @@ use Rattle.queue_core.specs.Rows as rows
 use Rattle.mini_broker.specs.declared.mailbox.CopyMessage.{CopyMessage}
 use Rattle.mini_broker.specs.declared.standing.StandingQueue.{StandingQueue}
 use Rattle.mini_broker.specs.Mail.{entered, left, fresh}
-use Rattle.mini_broker.specs.Queues.{Named, queue_of, changed, with_mail, IsLast, AreAbove}
+use Rattle.mini_broker.specs.Queues.{Named, changed, with_mail, IsLast, AreAbove}
 use Rattle.mini_broker.specs.State.{SameNames}
 use Rattle.mini_broker.specs.Publish.{all_entered}
 use Rattle.mini_broker.proofs.NameLemmas.{stands_changed}

@@ -1,7 +1,6 @@
 -- Clients begin and end to consume from a queue (AMQP 0-9-1, basic.consume, basic.cancel).
-use Rattle.std.specs.Prelude.{ℕ, ◌+◌, List, ◌++◌, ◌∷◌, [], Bool, false, not, if◌then◌else◌, Option, Some, None, is_some, unwrap_or, Result, Ok, Err, length, position, find, filter}
+use Rattle.std.specs.Prelude.{ℕ, ◌+◌, List, ◌++◌, ◌∷◌, [], Bool, false, not, if◌then◌else◌, Option, Some, None, is_some, unwrap_or, length, position, find, filter}
 use Rattle.std.specs.List.{list_any}
-use Rattle.std.specs.Option.{option_map_or}
 use Rattle.queue_core.specs.declared.rows.Holder.{Holder}
 use Rattle.route_core.specs.Walks.{is_reserved}
 use Rattle.fed_journal.specs.declared.place.Client.{Client}

@@ -1,5 +1,5 @@
 -- A queue hands a copy to a consumer, or to a client that asks for one (AMQP 0-9-1, basic.deliver, basic.get).
-use Rattle.std.specs.Prelude.{ℕ, List, [], Bool, ◌&&◌, nat_le, nat_lt, if◌then◌else◌, Option, Some, None, count_by, Result, Ok, Err, find}
+use Rattle.std.specs.Prelude.{ℕ, List, [], Bool, ◌&&◌, nat_le, nat_lt, if◌then◌else◌, Option, Some, None, count_by, Result, Ok, Err}
 use Rattle.std.specs.Option.{option_map, option_map_or}
 use Rattle.queue_core.specs.declared.rows.Holder.{Holder}
 use Rattle.queue_core.specs.Rows.{is_held_by}

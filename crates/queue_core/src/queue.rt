@@ -67,7 +67,8 @@ impl Queue {
     pub fn hand_copy(&mut self, copy: CopyNo, holder: Holder)
         ensures { self.new ≡ handed copy holder self.old }
     {
-        set_hold(&mut self.rows, copy, Hold::Held(holder));
+        let held = Hold::Held(holder);
+        set_hold(&mut self.rows, copy, held);
     }
 
     /// Removes the copy; false exactly where it isn't there.

@@ -1,4 +1,4 @@
-use Rattle.std.proofs.Common.{None, sym, ap, ◌∙◌}
+use Rattle.std.proofs.Common.{sym, ap, ◌∙◌}
 use Rattle.std.specs.Option.{option_and_then}
 use Rattle.queue_core.specs.Rows.{first_ready}
 use Rattle.mini_broker.specs.declared.standing.StandingQueue.{StandingQueue}

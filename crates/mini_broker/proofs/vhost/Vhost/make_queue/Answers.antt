@@ -1,4 +1,3 @@
-use Rattle.mini_broker.specs.Declare.{made_queue}
 use Rattle.mini_broker.proofs.NameLemmas.{routed_queue}
 use Rattle.mini_broker.proofs.vhost.Vhost.make_queue.Goals as goal
 
