@@ -1,7 +1,9 @@
 -- The hosts of a run by their brokers.
 use Rattle.std.proofs.Common.{◌≡◌, ℕ, List, [], ◌∷◌, ◌++◌, Bool, true, false, cond, Option, Some, None, is_some, refl, sym, ap, subst, ◌∙◌, find, map}
 use Rattle.std.specs.Prelude.{◌||◌, ◌&&◌, All, codes}
+use Rattle.std.specs.Borrow.{Bor}
 use Rattle.std.specs.List.{list_any}
+use Rattle.std.specs.Option.{option_copied}
 use Rattle.std.proofs.lemmas.Option.{none-some, same_Some}
 use Rattle.std.proofs.lemmas.List.Elements.{All-head, All-tail}
 use Rattle.fed_journal.specs.declared.place.Place.{Place}
@@ -18,6 +20,10 @@ use Rattle.broker_view.proofs.Names.{same_text-true}
 pub find-any : {X : Type 0} (test : X → Bool) (xs : List X) → is_some (find test xs) ≡ list_any test xs
 find-any test [] = refl
 find-any test (x ∷ xs) = elim (test x) as (λ b. is_some (cond b (Some x) (find test xs)) ≡ (b || list_any test xs)) [ true ↦ refl | false ↦ find-any test xs ]
+
+pub some-copied : {X : Type 0} (o : Option (Bor X)) → is_some o ≡ is_some (option_copied o)
+some-copied None = refl
+some-copied (Some x) = refl
 
 pub known-broker : (J : List Entry) (hosts : List Host) (b : List ℕ) → AreViews J hosts → is_some (find (λ (host : Host). same_text host.broker b) hosts) ≡ is_broker J b
 known-broker J hosts b views = find-any (λ (host : Host). same_text host.broker b) hosts ∙ views.brokers b

@@ -30,3 +30,12 @@ ready-at host e r place client tag queue copy no_ack is here =
 pub handed-as : (link : ℕ) (e : Entry) (host : Host) (v : VhostState) (place : Place) (client : Client) (tag queue : List ℕ) (copy : ℕ) (no_ack : Bool) → Delivered place client tag queue copy no_ack ≡ e → same_place place (place_of host.broker) ≡ true → v ≡ with_handed client tag queue copy no_ack host.vhost → record host { vhost = v } ≡ recorded_at link e host
 handed-as link e host v place client tag queue copy no_ack is here k =
     recorded-as link e (Delivered place client tag queue copy no_ack) host v (sym is) (k ∙ sym (ap (λ b. cond b (with_handed client tag queue copy no_ack host.vhost) host.vhost) here))
+
+-- the number of the first copy, where there is one
+pub first-number : (n first : ℕ) (names : List (List ℕ)) → first ≡ first_of n names → (length names ≡ 0 → ⊥) → first ≡ n
+first-number n first [] is some = absurd (some refl)
+first-number n first (name ∷ names) is some = is
+
+pub above-at : (host : Host) (x : Publication) → IsRecordable host (Published x) → (length x.queues ≡ 0 → ⊥) → AreAbove x.first host.vhost.queues
+above-at host x r some =
+    subst (λ n. AreAbove n host.vhost.queues) (sym (first-number (copy_count r.journal + 1) x.first x.queues r.suits.0 some)) r.view.counted.above

@@ -1,13 +1,16 @@
 -- The virtual hosts of a run's brokers.
-use Rattle.std.specs.Prelude.{◌≡◌, ℕ, List, [], ◌∷◌, ◌++◌, All, map, codes}
+use Rattle.std.specs.Prelude.{◌≡◌, ℕ, if◌then◌else◌, List, [], ◌∷◌, ◌++◌, All, map, codes}
 use Rattle.std.specs.List.{list_any}
 use Rattle.fed_journal.specs.declared.place.Place.{Place}
+use Rattle.fed_journal.specs.declared.entry.Publication.{Publication}
 use Rattle.fed_journal.specs.declared.entry.Entry.{Entry}
 use Rattle.fed_journal.specs.Names.{same_text}
 use Rattle.fed_journal.specs.Configuration.{is_broker}
+use Rattle.mini_broker.specs.Record.{with_entered}
+use Rattle.mini_broker.specs.Vhosts.{bare}
 use Rattle.broker_view.specs.declared.host.Host.{Host}
 use Rattle.broker_view.specs.Recorded.{recorded}
-use Rattle.broker_view.specs.Suits.{Suits}
+use Rattle.broker_view.specs.Suits.{Suits, EachSuits}
 use Rattle.broker_view.specs.View.{AreDistinct, IsView}
 
 -- a broker has the virtual host `/` (RabbitMQ, Virtual Hosts)
@@ -16,6 +19,14 @@ place_of broker = record { broker = broker; vhost = codes "/" }
 
 abbrev pub recorded_at : ℕ → Entry → Host → Host
 recorded_at link e host = record host { vhost = recorded link (place_of host.broker) e host.vhost }
+
+-- the publication's copies enter the host's queues
+abbrev pub entered_at : Publication → Host → Host
+entered_at x host = record host { vhost = with_entered x.queues x.first x.message host.vhost }
+
+-- a bare broker stands beside the others, once (AMQP 0-9-1, 3.1 "The AMQ model")
+abbrev pub with_host : List ℕ → List Host → List Host
+with_host b hosts = if list_any (λ host. same_text host.broker b) hosts then hosts else hosts ++ record { broker = b; vhost = bare } ∷ []
 
 -- the brokers of the journal, each once, and what stands at each
 pub record AreViews (J : List Entry) (hosts : List Host) : Type 0 where
@@ -28,3 +39,13 @@ pub record IsRecordable (host : Host) (e : Entry) : Type 0 where
   pub journal : List Entry
   pub view : IsView journal (place_of host.broker) host.vhost
   pub suits : Suits journal e
+
+-- some journal leads to the hosts, and the entry suits it
+pub record IsNext (hosts : List Host) (e : Entry) : Type 0 where
+  pub journal : List Entry
+  pub views : AreViews journal hosts
+  pub suits : Suits journal e
+
+-- from each journal that leads to the hosts, its entry leads on to those
+abbrev pub LeadsOn : List Host → Entry → List Host → Type 0
+LeadsOn hosts e now = (J : List Entry) → AreViews J hosts → Suits J e → AreViews (J ++ e ∷ []) now

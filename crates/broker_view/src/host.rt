@@ -1,12 +1,14 @@
 //! The virtual host of a broker, and what the journal records of it.
 
-ghost use Rattle.std.specs.Prelude.{◌≡◌, OnOk, IsTrue};
+ghost use Rattle.std.specs.Prelude.{◌≡◌, ◌+◌, ◌<◌, ◌^◌, OnOk, IsTrue, length};
+ghost use Rattle.fed_journal.specs.declared.entry.Entry.TheVariants.{Published};
+ghost use Rattle.fed_journal.specs.Copies.{IsFitting};
 ghost use Rattle.fed_journal.specs.Names.{same_place};
 ghost use Rattle.broker_view.specs.Recorded.{session_holder, is_making, is_moving};
-ghost use Rattle.broker_view.specs.Hosts.{place_of, recorded_at, IsRecordable};
+ghost use Rattle.broker_view.specs.Hosts.{place_of, recorded_at, entered_at, IsRecordable};
 
 use amqp_props::Text;
-use fed_journal::entry::Entry;
+use fed_journal::entry::{Entry, Publication};
 use fed_journal::place::Place;
 use mini_broker::Vhost;
 use queue_core::Holder;
@@ -78,20 +80,38 @@ fn record_made(host: &mut Host, link: u32, entry: &Entry) -> Result<(), AllocErr
     Ok(())
 }
 
+/// Lets the copies of a publication at the host's place enter its queues.
+///
+/// # Errors
+///
+/// For want of memory.
+fn enter(host: &mut Host, publication: &Publication) -> Result<(), AllocError>
+    requires recordable { IsRecordable host.old (Published publication.now) }
+    requires fits { publication.now.first + length publication.now.queues < 2 ^ 64 }
+    ensures { OnOk result (host.new ≡ entered_at publication.now host.old) }
+{
+    let queues = publication.queues.as_slice();
+    if queues.is_empty() {
+        return Ok(());
+    }
+    let message = publication.message.clone()?;
+    host.vhost.enter(queues, publication.first, message)?;
+    Ok(())
+}
+
 /// Does to the host what became of copies by their numbers, or in its queues.
 ///
 /// # Errors
 ///
 /// For want of memory.
 fn record_moved(host: &mut Host, link: u32, entry: &Entry) -> Result<(), AllocError>
-    requires { IsRecordable host.old entry.now }
+    requires recordable { IsRecordable host.old entry.now }
+    requires fits { IsFitting entry.now }
     ensures { IsTrue (is_moving entry.now) → OnOk result (host.new ≡ recorded_at link entry.now host.old) }
 {
     match entry {
         Entry::Published(publication) if is_at(host, &publication.place) => {
-            let message = publication.message.clone()?;
-            host.vhost
-                .enter(publication.queues.as_slice(), publication.first, message)?;
+            enter(host, publication)?;
         }
         Entry::Flushed { broker } if host.broker == *broker => host.vhost.flush(),
         Entry::Took { session, copy, .. } => {
@@ -115,7 +135,8 @@ fn record_moved(host: &mut Host, link: u32, entry: &Entry) -> Result<(), AllocEr
 ///
 /// For want of memory.
 pub fn record(host: &mut Host, link: u32, entry: &Entry) -> Result<(), AllocError>
-    requires { IsRecordable host.old entry.now }
+    requires recordable { IsRecordable host.old entry.now }
+    requires fits { IsFitting entry.now }
     ensures { OnOk result (host.new ≡ recorded_at link entry.now host.old) }
 {
     match entry {

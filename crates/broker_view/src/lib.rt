@@ -1,6 +1,7 @@
 //! What brokers hold after a journal.
 #![tactic(auto)]
 
+pub mod brokers;
 pub mod host;
 pub mod run;
 mod laws;

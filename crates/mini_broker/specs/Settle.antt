@@ -1,5 +1,5 @@
 -- A client answers for a copy that it holds (AMQP 0-9-1, basic.ack, basic.reject), and empties a queue (queue.purge).
-use Rattle.std.specs.Prelude.{ℕ, List, Bool, false, nat_lt, if◌then◌else◌, Option, Some, None, Result, Ok, position}
+use Rattle.std.specs.Prelude.{ℕ, List, Bool, false, if◌then◌else◌, Option, Some, None, Result, Ok, position}
 use Rattle.fed_journal.specs.declared.place.Client.{Client}
 use Rattle.mini_broker.specs.declared.fault.ClientFault.{ClientFault}
 use Rattle.mini_broker.specs.declared.mailbox.Sweep.{Sweep}
@@ -11,16 +11,9 @@ use Rattle.mini_broker.specs.Consumers.{is_client}
 use Rattle.mini_broker.specs.Consume.{queue_refusal}
 use Rattle.mini_broker.specs.State.{VhostState}
 
--- numbers have 32 bits: a client past them was never numbered, and holds nothing
-abbrev pub as_number : Option ℕ → Option ℕ
-as_number None = None
-as_number (Some place) = if nat_lt place 4294967296 then Some place else None
-
-abbrev pub number_among : Client → List Client → Option ℕ
-number_among who clients = as_number (position (is_client who) clients)
-
+-- the client's number, if it consumed or got here
 abbrev pub number_in : Client → VhostState → Option ℕ
-number_in who v = number_among who v.clients
+number_in who v = position (is_client who) v.clients
 
 abbrev pub holds_as : Option ℕ → ℕ → List Named → Bool
 holds_as None copy queues = false

@@ -1,10 +1,9 @@
 //! The clients of a virtual host.
 
-ghost use Rattle.std.specs.Prelude.{◌≡◌, ◌≤◌, [], ◌∷◌, ◌++◌, IfOk, OnOk, OnErr, length, position};
+ghost use Rattle.std.specs.Prelude.{◌≡◌, ◌≤◌, ◌<◌, [], ◌∷◌, ◌++◌, IfOk, IfSome, OnOk, OnErr, length, position};
 ghost use Rattle.std.specs.List.{list_any};
 ghost use Rattle.mini_broker.specs.Consumers.{is_client};
 ghost use Rattle.mini_broker.specs.Consume.{client_number, registered};
-ghost use Rattle.mini_broker.specs.Settle.{number_among};
 
 use fed_journal::place::Client;
 use std::alloc::{AllocError, Global};
@@ -48,13 +47,10 @@ impl Clients {
 
     /// The number of the client, if it has one.
     pub fn find(&self, who: Client) -> Option<u32>
-        ensures { result ≡ number_among who self.now }
+        ensures { result ≡ position (is_client who) self.now }
     {
         let place = place_of(&self.list, who)?;
-        match u32::try_from(place) {
-            Ok(number) => Some(number),
-            Err(_) => None,
-        }
+        Some(place as u32)
     }
 
     /// The number of the client, or the number that it would get.
@@ -97,7 +93,8 @@ impl Clients {
 
 /// The place of the client in the list.
 fn place_of(clients: &[Client], who: Client) -> Option<usize>
-    ensures { result ≡ position (is_client who) clients.now }
+    ensures place { result ≡ position (is_client who) clients.now }
+    ensures within { IfSome result (λ place. place < length clients.now) }
 {
     clients.iter().position(|client| *client == who)
 }

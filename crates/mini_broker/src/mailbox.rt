@@ -206,8 +206,8 @@ impl Mailbox {
             Sweep::Settle(number) => {
                 self.leave(number);
             }
-            Sweep::Requeue(number) => {
-                self.release(number);
+            Sweep::Requeue(copy) => {
+                self.release(copy);
             }
         }
     }

@@ -1,4 +1,5 @@
-use Rattle.std.proofs.Common.{sym, ◌∙◌}
+use Rattle.std.proofs.Common.{ap, sym, ◌∙◌}
+use Rattle.mini_broker.specs.Consume.{consumer_of}
 use Rattle.broker_view.proofs.Questions.{held_count-is}
 use Rattle.broker_view.proofs.Holding.{counts-as}
 use Rattle.broker_view.proofs.run.Run.consumer.Goals as goal
@@ -7,4 +8,4 @@ pub returns-clause-held : goal.returns-clause-held
 returns-clause-held c =
     c.held_count.ensures
     ∙ held_count-is c.args.self.now c.args.place.now c.in_ok-vhost.vhost.now c.args.client c.args.tag.now c.in_ok-consumer.consumer.now.queue c.in_ok-consumer.consumer.now c.in_ok-vhost.ensures.view.copies
-      (λ n h r is. counts-as c.args.self.now c.args.place.now c.in_ok-vhost.vhost.now c.args.client c.args.tag.now c.in_ok-consumer.consumer.now n h r c.in_ok-vhost.ensures.view.consuming (sym c.in_ok-consumer.ensures) is)
+      (λ n h r is. counts-as c.args.self.now c.args.place.now c.in_ok-vhost.vhost.now c.args.client c.args.tag.now c.in_ok-consumer.consumer.now n h r c.in_ok-vhost.ensures.view.consuming (ap (λ t. consumer_of c.args.client t c.in_ok-vhost.vhost.now) (sym c.as_str.ensures) ∙ sym c.in_ok-consumer.ensures) is)

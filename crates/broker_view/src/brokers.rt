@@ -1,0 +1,150 @@
+//! The brokers of a run, which follow its journal.
+
+ghost use Rattle.std.specs.Prelude.{◌≡◌, ◌++◌, [], All, OnOk, map};
+ghost use Rattle.std.specs.List.{list_any};
+ghost use Rattle.fed_journal.specs.Names.{same_text};
+ghost use Rattle.fed_journal.specs.Copies.{IsFitting};
+ghost use Rattle.broker_view.specs.Suits.{EachSuits};
+ghost use Rattle.broker_view.specs.Hosts.{recorded_at, with_host as hosts_with, AreViews, IsRecordable, IsNext, LeadsOn};
+
+use crate::host::{Host, record};
+use crate::run::Run;
+use amqp_props::Text;
+use fed_journal::entry::Entry;
+use mini_broker::Vhost;
+use std::alloc::{AllocError, Global};
+
+/// The virtual hosts of the brokers, and the links in the order in which they first took a copy.
+#[derive(Drop)]
+pub struct Brokers {
+    pub hosts: Vec<Host>,
+    pub links: Vec<Text>,
+}
+
+/// Whether there is a host of the broker.
+fn has_host(hosts: &[Host], broker: &Text) -> bool
+    ensures { result ≡ list_any (λ host. same_text host.broker broker.now) hosts.now }
+{
+    hosts.iter().any(|host| host.broker == *broker)
+}
+
+/// Adds a bare host of the broker, unless there is one.
+///
+/// # Errors
+///
+/// For want of memory.
+fn add_host(alloc: Global, hosts: &mut Vec<Host>, broker: &Text) -> Result<(), AllocError>
+    ensures { OnOk result (hosts.new.items ≡ hosts_with broker.now hosts.old.items) }
+{
+    if has_host(hosts, broker) {
+        return Ok(());
+    }
+    hosts.push(Host {
+        broker: broker.clone()?,
+        vhost: Vhost::new(alloc)?,
+    })?;
+    Ok(())
+}
+
+/// The number of the link, which it gets when it first takes a copy.
+///
+/// # Errors
+///
+/// For want of memory, or where there is no number left.
+fn link_number(links: &mut Vec<Text>, entry: &Entry) -> Result<u32, AllocError> {
+    let Entry::Took { link, .. } = entry else {
+        return Ok(0);
+    };
+    let place = match links.iter().position(|known| *known == *link) {
+        Some(place) => place,
+        None => {
+            links.push(link.clone()?)?;
+            links.len() - 1
+        }
+    };
+    match u32::try_from(place) {
+        Ok(number) => Ok(number),
+        Err(_) => Err(AllocError),
+    }
+}
+
+/// Does to each host what the entry records of its place.
+///
+/// # Errors
+///
+/// For want of memory.
+fn record_each(hosts: &mut Vec<Host>, link: u32, entry: &Entry) -> Result<(), AllocError>
+    requires recordable { All (λ host. IsRecordable host entry.now) hosts.old.items }
+    requires fits { IsFitting entry.now }
+    ensures { OnOk result (hosts.new.items ≡ map (recorded_at link entry.now) hosts.old.items) }
+{
+    for host in hosts.iter_mut() {
+        record(host, link, entry)?;
+    }
+    Ok(())
+}
+
+/// Does to the hosts what the entry records.
+///
+/// # Errors
+///
+/// For want of memory.
+fn record_entry(
+    alloc: Global,
+    hosts: &mut Vec<Host>,
+    link: u32,
+    entry: &Entry,
+) -> Result<(), AllocError>
+    requires next { IsNext hosts.old.items entry.now }
+    requires fits { IsFitting entry.now }
+    ensures { OnOk result (LeadsOn hosts.old.items entry.now hosts.new.items) }
+{
+    match entry {
+        Entry::Begun { broker, .. } => add_host(alloc, hosts, broker)?,
+        _ => record_each(hosts, link, entry)?,
+    }
+    Ok(())
+}
+
+impl Brokers {
+    /// No brokers.
+    pub fn new(alloc: Global) -> Brokers
+        ensures { AreViews [] result.hosts.items }
+    {
+        Brokers {
+            hosts: Vec::new(alloc),
+            links: Vec::new(alloc),
+        }
+    }
+
+    /// Does what these entries record, which follow the others of the journal.
+    ///
+    /// # Errors
+    ///
+    /// For want of memory; the brokers follow no journal any more.
+    pub fn record(
+        &mut self,
+        alloc: Global,
+        before: &[Entry],
+        entries: &[Entry],
+    ) -> Result<(), AllocError>
+        requires views { AreViews before.now self.old.hosts.items }
+        requires suits { EachSuits before.now entries.now }
+        requires fits { All IsFitting entries.now }
+        ensures { OnOk result (AreViews (before.now ++ entries.now) self.new.hosts.items) }
+    {
+        for entry in entries {
+            let link = link_number(&mut self.links, entry)?;
+            record_entry(alloc, &mut self.hosts, link, entry)?;
+        }
+        Ok(())
+    }
+
+    /// The run that the entries and the brokers are.
+    pub fn run<'a>(&'a self, entries: &'a [Entry]) -> Run<'a>
+        requires { AreViews entries.now self.now.hosts.items }
+        ensures { result ≡ entries.now }
+    {
+        Run::new(entries, self.hosts.as_slice())
+    }
+}
