@@ -51,8 +51,8 @@ mapped-views : (n : ℕ) (J : List Entry) (e : Entry) (hosts : List Host) → Su
 mapped-views n J e [] suits all = All-nil (λ (h : Host). IsView (J ++ e ∷ []) (place_of h.broker) h.vhost)
 mapped-views n J e (h ∷ hosts) suits all =
     All-cons (λ (x : Host). IsView (J ++ e ∷ []) (place_of x.broker) x.vhost) (recorded_at n e h) (map (recorded_at n e) hosts)
-      (view-step n J (place_of h.broker) e h.vhost (All-head (λ (x : Host). IsView J (place_of x.broker) x.vhost) h hosts all) suits)
-      (mapped-views n J e hosts suits (All-tail (λ (x : Host). IsView J (place_of x.broker) x.vhost) h hosts all))
+    (view-step n J (place_of h.broker) e h.vhost (All-head (λ (x : Host). IsView J (place_of x.broker) x.vhost) h hosts all) suits)
+    (mapped-views n J e hosts suits (All-tail (λ (x : Host). IsView J (place_of x.broker) x.vhost) h hosts all))
 
 pub views-step : (n : ℕ) (J : List Entry) (e : Entry) (hosts : List Host) → is_begun e ≡ false → AreViews J hosts → Suits J e → AreViews (J ++ e ∷ []) (map (recorded_at n e) hosts)
 views-step n J e hosts other views suits = record {
@@ -67,7 +67,7 @@ views-step n J e hosts other views suits = record {
 begun-views : (J : List Entry) (b cluster kept : List ℕ) (hosts : List Host) → Suits J (Begun b cluster kept) → All (λ (h : Host). IsView J (place_of h.broker) h.vhost) hosts → All (λ (h : Host). IsView (J ++ Begun b cluster kept ∷ []) (place_of h.broker) h.vhost) hosts
 begun-views J b cluster kept hosts suits all =
     All-weaker (λ (h : Host). IsView J (place_of h.broker) h.vhost) (λ (h : Host). IsView (J ++ Begun b cluster kept ∷ []) (place_of h.broker) h.vhost)
-      (λ h view. view-step 0 J (place_of h.broker) (Begun b cluster kept) h.vhost view suits) hosts all
+    (λ h view. view-step 0 J (place_of h.broker) (Begun b cluster kept) h.vhost view suits) hosts all
 
 begun-broker : (J : List Entry) (b cluster kept n : List ℕ) → is_broker (J ++ Begun b cluster kept ∷ []) n ≡ (is_broker J n || same_text b n)
 begun-broker J b cluster kept n = any-append (begins n) J (Begun b cluster kept ∷ []) ∙ ap (λ x. is_broker J n || x) (sym (or-false (same_text b n)))
@@ -91,9 +91,10 @@ names-any b (h ∷ hosts) = ap (λ x. x || list_any (same_text b) (map (λ (y : 
 
 distinct-push : (ns : List (List ℕ)) (b : List ℕ) → list_any (same_text b) ns ≡ false → AreDistinct ns → AreDistinct (ns ++ b ∷ [])
 distinct-push [] b none distinct = (refl, tt)
-distinct-push (n ∷ ns) b none distinct =
-    (any-append (same_text n) ns (b ∷ []) ∙ or_from (list_any (same_text n) ns) (same_text n b || false) distinct.0 (ap (λ x. x || false) (same_text-sym n b) ∙ sym (or-false (same_text b n)) ∙ (or-parts (same_text b n) (list_any (same_text b) ns) none).0),
-     distinct-push ns b (or-parts (same_text b n) (list_any (same_text b) ns) none).1 distinct.1)
+distinct-push (n ∷ ns) b none distinct = (
+  any-append (same_text n) ns (b ∷ []) ∙ or_from (list_any (same_text n) ns) (same_text n b || false) distinct.0 (ap (λ x. x || false) (same_text-sym n b) ∙ sym (or-false (same_text b n)) ∙ (or-parts (same_text b n) (list_any (same_text b) ns) none).0),
+  distinct-push ns b (or-parts (same_text b n) (list_any (same_text b) ns) none).1 distinct.1,
+)
   where
     or-parts : (x y : Bool) → (x || y) ≡ false → (x ≡ false) × (y ≡ false)
     or-parts true y h = absurd (true≢false h)
@@ -111,7 +112,7 @@ new-views J b cluster kept hosts none views suits = record {
   brokers = λ n. any-append (λ (h : Host). same_text h.broker n) hosts (record { broker = b; vhost = bare } ∷ []) ∙ ap (λ x. list_any (λ (h : Host). same_text h.broker n) hosts || x) (sym (or-false (same_text b n))) ∙ ap (λ x. x || same_text b n) (views.brokers n) ∙ sym (begun-broker J b cluster kept n);
   distinct = subst AreDistinct (pushed-names b hosts) (distinct-push (map (λ (h : Host). h.broker) hosts) b (names-any b hosts ∙ none) views.distinct);
   views = All-push (λ (h : Host). IsView (J ++ Begun b cluster kept ∷ []) (place_of h.broker) h.vhost) hosts (record { broker = b; vhost = bare }) (begun-views J b cluster kept hosts suits views.views)
-    (view-step 0 J (place_of b) (Begun b cluster kept) bare (bare-view J (place_of b) suits) suits);
+      (view-step 0 J (place_of b) (Begun b cluster kept) bare (bare-view J (place_of b) suits) suits);
 }
 
 begun-by : (J : List Entry) (b cluster kept : List ℕ) (hosts : List Host) (c : Bool) → list_any (λ (h : Host). same_text h.broker b) hosts ≡ c → AreViews J hosts → Suits J (Begun b cluster kept) → AreViews (J ++ Begun b cluster kept ∷ []) (cond c hosts (hosts ++ record { broker = b; vhost = bare } ∷ []))
@@ -127,7 +128,7 @@ recorded-step n e hosts now other is = λ J views suits. subst (AreViews (J ++ e
 pub all-recordable : (hosts : List Host) (e : Entry) → IsNext hosts e → All (λ (h : Host). IsRecordable h e) hosts
 all-recordable hosts e next =
     All-weaker (λ (h : Host). IsView next.journal (place_of h.broker) h.vhost) (λ (h : Host). IsRecordable h e)
-      (λ h view. record { journal = next.journal; view = view; suits = next.suits }) hosts next.views.views
+    (λ h view. record { journal = next.journal; view = view; suits = next.suits }) hosts next.views.views
 
 pub no-views : AreViews [] []
 no-views = record { brokers = λ b. refl; distinct = tt; views = All-nil (λ (h : Host). IsView [] (place_of h.broker) h.vhost) }

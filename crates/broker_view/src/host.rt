@@ -147,13 +147,8 @@ fn record_consumed(host: &mut Host, link: u32, entry: &Entry) -> Result<(), Allo
             no_ack,
             prefetch,
         } if is_at(host, place) => {
-            host.vhost.begin_consumer(
-                *client,
-                queue.as_str(),
-                tag.as_str(),
-                *no_ack,
-                *prefetch,
-            )?;
+            host.vhost
+                .begin_consumer(*client, queue.as_str(), tag.as_str(), *no_ack, *prefetch)?;
         }
         Entry::Cancelled { place, client, tag } if is_at(host, place) => {
             host.vhost.cancel(*client, tag.as_str());

@@ -10,4 +10,4 @@ returns-clause-held c =
     c.held_count.ensures
     ∙ ap (λ q. deliver.held_count q c.in_ok-consumer.consumer.now.holder c.in_ok-vhost.vhost.now.queues) c.as_str-2.ensures
     ∙ held_count-is c.args.self.now c.args.place.now c.in_ok-vhost.vhost.now c.args.client c.args.tag.now c.in_ok-consumer.consumer.now.queue c.in_ok-consumer.consumer.now c.in_ok-vhost.ensures.view.copies
-      (λ n h r is. counts-as c.args.self.now c.args.place.now c.in_ok-vhost.vhost.now c.args.client c.args.tag.now c.in_ok-consumer.consumer.now n h r c.in_ok-vhost.ensures.view.consuming (ap (λ t. consumer_of c.args.client t c.in_ok-vhost.vhost.now) (sym c.as_str.ensures) ∙ sym c.in_ok-consumer.ensures) is)
+    (λ n h r is. counts-as c.args.self.now c.args.place.now c.in_ok-vhost.vhost.now c.args.client c.args.tag.now c.in_ok-consumer.consumer.now n h r c.in_ok-vhost.ensures.view.consuming (ap (λ t. consumer_of c.args.client t c.in_ok-vhost.vhost.now) (sym c.as_str.ensures) ∙ sym c.in_ok-consumer.ensures) is)
