@@ -1,9 +1,9 @@
 -- Virtual hosts' names are distinct, so an item that is given to the first of its name is in the share of that one alone.
-use Rattle.std.proofs.Common.{◌≡◌, ◌≢◌, ℕ, zero, suc, ◌+◌, ◌-◌, ◌<◌, List, [], ◌∷◌, ◌++◌, length, drop, get_or, Bool, true, false, ◌||◌, cond, refl, sym, ap, ◌∙◌, subst, true≢false, arith}
+use Rattle.std.proofs.Common.{◌≡◌, ◌≢◌, ℕ, zero, suc, ◌+◌, ◌-◌, ◌<◌, List, [], ◌∷◌, ◌++◌, length, drop, get_or, Bool, true, false, not, ◌||◌, Option, Some, None, cond, refl, sym, ap, ◌∙◌, subst, true≢false, arith}
 use Rattle.std.proofs.Math.ListN.{set}
 use Rattle.std.proofs.lemmas.List.{length-drop}
 use Rattle.std.specs.Cmp.Lexicographic.{same_text as told_same}
-use Rattle.std.specs.List.{AllByRecursion}
+use Rattle.std.specs.List.{AllByRecursion, position, position_or_len}
 use Rattle.fed_defs.specs.declared.names.Name.{Name}
 use Rattle.fed_defs.specs.declared.placed.Placed.{Placed}
 use Rattle.fed_defs.specs.PlacedItems.{placed_in, placed_in_each, given, AreDistinct}
@@ -76,6 +76,22 @@ given_none (n ∷ ns) p [] h = refl
 given_none (n ∷ ns) p (list ∷ lists) h =
     let apart = neither (same_name (vhost_named p.vhost) n) _ h in
     rw (apart.0, given_none ns p lists apart.1) refl
+
+-- the place of a name as the table of names gives it
+place_step : (b : Bool) (k : ℕ) → cond b 0 (1 + k) ≡ cond (not b) (1 + k) 0
+place_step true k = refl
+place_step false k = refl
+
+place_is : (vs : List Name) (name : Name) → place_of name vs ≡ position_or_len (same_name name) vs
+place_is [] name = refl
+place_is (n ∷ ns) name = rw (place_is ns name) (place_step (same_name name n) _)
+
+some_at : (b : Bool) (place k : ℕ) → Some place ≡ cond b (Some k) None → place ≡ k
+some_at true place k h = cc
+some_at false place k h = absurd cc
+
+pub place_found : (vs : List Name) (name : Name) (place : ℕ) → Some place ≡ position (same_name name) vs → place ≡ place_of name vs
+place_found vs name place h = some_at _ place _ h ∙ sym (place_is vs name)
 
 place_at : (n : Name) (ns : List Name) (name : Name) → (has_name name ns ≡ true → place_of name ns < length ns) → (b : Bool)
     → same_name name n ≡ b → (b || has_name name ns) ≡ true → cond b 0 (1 + place_of name ns) < length (n ∷ ns)
