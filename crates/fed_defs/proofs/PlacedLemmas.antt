@@ -2,6 +2,7 @@
 use Rattle.std.proofs.Common.{◌≡◌, ◌≢◌, ℕ, zero, suc, ◌+◌, ◌-◌, ◌<◌, List, [], ◌∷◌, ◌++◌, length, drop, get_or, Bool, true, false, not, ◌||◌, Option, Some, None, cond, refl, sym, ap, ◌∙◌, subst, true≢false, arith}
 use Rattle.std.proofs.Math.ListN.{set}
 use Rattle.std.proofs.lemmas.List.{length-drop}
+use Rattle.std.specs.Prelude.{IfSome}
 use Rattle.std.specs.Cmp.Lexicographic.{same_text as told_same}
 use Rattle.std.specs.List.{AllByRecursion, position, position_or_len}
 use Rattle.fed_defs.specs.declared.names.Name.{Name}
@@ -90,8 +91,10 @@ some_at : (b : Bool) (place k : ℕ) → Some place ≡ cond b (Some k) None →
 some_at true place k h = cc
 some_at false place k h = absurd cc
 
-pub place_found : (vs : List Name) (name : Name) (place : ℕ) → Some place ≡ position (same_name name) vs → place ≡ place_of name vs
-place_found vs name place h = some_at _ place _ h ∙ sym (place_is vs name)
+pub place_found : (vs : List Name) (name : Name) (found : Option ℕ) → found ≡ position (same_name name) vs
+    → IfSome found (λ place. place ≡ place_of name vs)
+place_found vs name None h = tt
+place_found vs name (Some place) h = some_at _ place _ h ∙ sym (place_is vs name)
 
 place_at : (n : Name) (ns : List Name) (name : Name) → (has_name name ns ≡ true → place_of name ns < length ns) → (b : Bool)
     → same_name name n ≡ b → (b || has_name name ns) ≡ true → cond b 0 (1 + place_of name ns) < length (n ∷ ns)

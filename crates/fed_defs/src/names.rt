@@ -130,13 +130,11 @@ impl Names {
     }
 
     /// Puts a new name behind the others.
-    #[tactic(auto, unfolding(crate::specs::Names::has_name, crate::specs::Names::same_name))]
     pub(crate) fn add(&mut self, name: Name) -> Result<(), AllocFailed<Name>>
         requires { known.has_name name self.old ≡ false }
         ensures { OnOk result (self.new ≡ self.old ++ name ∷ []) }
     {
-        self.set.insert(name)?;
-        Ok(())
+        self.note(name)
     }
 
     /// Puts a name behind the others if it is new.
@@ -149,7 +147,7 @@ impl Names {
     }
 
     /// The place of the name, where it stands here.
-    #[tactic(auto, unfolding(crate::specs::Names::has_name, crate::specs::Names::same_name), using(crate::proofs::PlacedLemmas::place_found))]
+    #[tactic(auto, unfolding(crate::specs::Names::has_name, crate::specs::Names::same_name))]
     pub(crate) fn place_of(&self, name: &Name) -> Option<usize>
         ensures found { is_some result ≡ known.has_name name.now self.now }
         ensures place { IfSome result (λ place. place ≡ known.place_of name.now self.now) }
