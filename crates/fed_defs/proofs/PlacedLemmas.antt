@@ -1,9 +1,10 @@
 -- Virtual hosts' names are distinct, so an item that is given to the first of its name is in the share of that one alone.
-use Rattle.std.proofs.Common.{◌≡◌, ◌≢◌, ℕ, zero, suc, ◌+◌, ◌-◌, ◌<◌, List, [], ◌∷◌, ◌++◌, length, drop, get_or, Bool, true, false, ◌||◌, cond, refl, sym, ap, ◌∙◌, subst, true≢false, arith}
+use Rattle.std.proofs.Common.{◌≡◌, ◌≢◌, ℕ, zero, suc, ◌+◌, ◌-◌, ◌<◌, List, [], ◌∷◌, ◌++◌, length, drop, get_or, Bool, true, false, not, ◌||◌, ◌&&◌, Option, Some, None, cond, refl, sym, ap, ◌∙◌, subst, true≢false, arith}
 use Rattle.std.proofs.Math.ListN.{set}
 use Rattle.std.proofs.lemmas.List.{length-drop}
+use Rattle.std.specs.Prelude.{IfSome}
 use Rattle.std.specs.Cmp.Lexicographic.{same_text as told_same}
-use Rattle.std.specs.List.{AllByRecursion}
+use Rattle.std.specs.List.{AllByRecursion, position, position_or_len}
 use Rattle.fed_defs.specs.declared.names.Name.{Name}
 use Rattle.fed_defs.specs.declared.placed.Placed.{Placed}
 use Rattle.fed_defs.specs.PlacedItems.{placed_in, placed_in_each, given, AreDistinct}
@@ -76,6 +77,37 @@ given_none (n ∷ ns) p [] h = refl
 given_none (n ∷ ns) p (list ∷ lists) h =
     let apart = neither (same_name (vhost_named p.vhost) n) _ h in
     rw (apart.0, given_none ns p lists apart.1) refl
+
+-- the place of a name as the table of names gives it
+place_step : (b : Bool) (k : ℕ) → cond b 0 (1 + k) ≡ cond (not b) (1 + k) 0
+place_step true k = refl
+place_step false k = refl
+
+and_parts : (a b c : Bool) → (a && (b && c)) ≡ ((a && b) && c)
+and_parts true b c = refl
+and_parts false b c = refl
+
+-- the comparison that is derived for names, key by key
+abbrev pub derived : Name → Name → Bool
+derived one other = same_text one.vhost other.vhost && (same_text one.component other.component && same_text one.name other.name)
+
+derived_is : (one other : Name) → derived one other ≡ same_name one other
+unfolding same_name
+derived_is one other =
+    and_parts (same_text one.vhost other.vhost) (same_text one.component other.component) (same_text one.name other.name)
+
+place_is : (vs : List Name) (name : Name) → place_of name vs ≡ position_or_len (derived name) vs
+place_is [] name = refl
+place_is (n ∷ ns) name = rw (place_is ns name, ← derived_is name n) (place_step (derived name n) (position_or_len (derived name) ns))
+
+some_at : (b : Bool) (place k : ℕ) → Some place ≡ cond b (Some k) None → place ≡ k
+some_at true place k h = cc
+some_at false place k h = absurd cc
+
+pub place_found : (vs : List Name) (name : Name) (found : Option ℕ) → found ≡ position (derived name) vs
+    → IfSome found (λ place. place ≡ place_of name vs)
+place_found vs name None h = tt
+place_found vs name (Some place) h = some_at _ place _ h ∙ sym (place_is vs name)
 
 place_at : (n : Name) (ns : List Name) (name : Name) → (has_name name ns ≡ true → place_of name ns < length ns) → (b : Bool)
     → same_name name n ≡ b → (b || has_name name ns) ≡ true → cond b 0 (1 + place_of name ns) < length (n ∷ ns)

@@ -90,10 +90,6 @@ file_bindings d = bindings_of (passed_objects d) (items_at (codes "bindings") d)
 unfoldable pub hosts_in : Data → List VhostConfig
 hosts_in d = map (host_config (file_exchanges d) (file_queues d) (file_bindings d) (file_policies d) (file_parameters d)) (file_vhosts d)
 
--- a broker whose cluster isn't named has the name of the run
-unfoldable pub broker_of : List ℕ → Data → BrokerConfig
-broker_of name d = record { name = name; cluster = unwrap_or (file_cluster d) name; vhosts = hosts_in d }
-
 -- ---- the counts
 
 unfoldable pub passed_named : Data → ℕ
@@ -111,17 +107,26 @@ objects_inert d = queues_inert (items_at (codes "queues") d) + exchanges_inert (
 unfoldable pub inert : Data → ℕ
 inert d = settings_inert d + objects_inert d
 
--- ---- what is kept of the file
+-- ---- the broker
 
+-- what is kept of the file
 unfoldable pub kept_file : Data → Data
 kept_file d = kept_beside (passed_objects d) d
+
+-- a broker whose cluster isn't named has the name of the run
+unfoldable pub broker_of : List ℕ → Data → BrokerConfig
+broker_of name d = record {
+  name = name;
+  cluster = unwrap_or (file_cluster d) name;
+  vhosts = hosts_in d;
+  kept = compact_text (kept_file d);
+}
 
 unfoldable pub definitions_of : List ℕ → Data → Definitions
 definitions_of name d = record {
   broker = broker_of name d;
   passed_over = passed_over d;
   inert = inert d;
-  kept = compact_text (kept_file d);
 }
 
 -- ---- what is refused

@@ -21,6 +21,8 @@ pub struct BrokerConfig {
     pub cluster: Text,
     /// Its virtual hosts.
     pub vhosts: Sequence<VhostConfig>,
+    /// What is kept of its definitions file, as compact JSON.
+    pub kept: Text,
 }
 
 /// A virtual host and its objects, policies and parameters, each list in order of making or setting.

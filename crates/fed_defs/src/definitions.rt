@@ -45,8 +45,6 @@ pub struct Definitions {
     pub passed_over: u32,
     /// How many keys, parameters and flags have no effect.
     pub inert: u32,
-    /// What is kept of the file, as compact JSON.
-    pub kept: Text,
 }
 
 /// The items of the list at the key, where there is one.
@@ -354,10 +352,10 @@ fn read_lists(alloc: Global, value: &Value, name: &str) -> Result<Definitions, K
             name,
             cluster,
             vhosts: hosts,
+            kept,
         },
         passed_over,
         inert,
-        kept,
     })
 }
 

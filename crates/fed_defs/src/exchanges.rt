@@ -1,8 +1,11 @@
 //! The exchanges of a definitions file.
-ghost use Rattle.std.specs.Prelude.{◌≡◌, ◌≢◌, [], None, Some, true, false, if◌then◌else◌, IfOk, OnOk, IfErr, codes};
+ghost use Rattle.std.specs.Prelude.{◌≡◌, ◌≢◌, [], ◌∷◌, ◌++◌, None, Some, true, false, if◌then◌else◌, IfOk, OnOk, IfErr, codes};
+ghost use Rattle.std.specs.Option.{option_or};
 ghost use Rattle.serde_json.specs.View.{view, items_view};
 ghost use Rattle.fed_defs.specs.Keys.{value_at, required_fault};
 ghost use Rattle.fed_defs.specs.Exchanges as exchanges;
+ghost use Rattle.fed_defs.specs.Names.{has_name};
+ghost use Rattle.fed_defs.specs.Paths.{whole_fault};
 ghost use Rattle.fed_defs.specs.Queues as queues;
 ghost use Rattle.fed_defs.specs.Vhosts as hosts;
 
@@ -224,6 +227,29 @@ fn exchange_inert(value: &Value) -> Result<u32, KeyFault>
     add(arguments, auto_delete_count(value))
 }
 
+/// Reads an exchange whose name doesn't stand among those before it, and puts its name behind them.
+fn take_exchange(
+    alloc: Global,
+    vhosts: &Names,
+    names: &mut Names,
+    index: usize,
+    value: &Value,
+) -> Result<Placed<ExchangeDef>, KeyFault>
+    ensures read { IfOk result (λ exchange. exchange ≡ exchanges.exchange_of (view value.now)) }
+    ensures named { OnOk result (names.new ≡ names.old ++ queues.object_name (view value.now) ∷ []) }
+    ensures ok { OnOk result (exchanges.exchange_fault vhosts.now index (view value.now) ≡ None) }
+    ensures once { OnOk result (whole_fault (codes "exchanges") index (has_name (queues.object_name (view value.now)) names.old) ≡ None) }
+    ensures fault { IfErr result (λ fault. fault ≢ KeyFault.Memory
+        → option_or (exchanges.exchange_fault vhosts.now index (view value.now))
+        (whole_fault (codes "exchanges") index (has_name (queues.object_name (view value.now)) names.old)) ≡ Some fault) }
+{
+    let exchange = read_exchange(alloc, vhosts, index, value)?;
+    let name = object_name(alloc, value)?;
+    once(alloc, names, &name, "exchanges", index)?;
+    names.add(name)?;
+    Ok(exchange)
+}
+
 /// What the list of exchanges holds.
 #[derive(Drop)]
 pub(crate) struct ExchangeList {
@@ -277,10 +303,7 @@ pub(crate) fn read_exchanges(
     let mut inert = 0;
     for (index, value) in items.iter().enumerate() {
         if !is_passed_exchange(value) {
-            let name = object_name(alloc, value)?;
-            let exchange = read_exchange(alloc, vhosts, index, value)?;
-            once(alloc, &names, &name, "exchanges", index)?;
-            names.add(name)?;
+            let exchange = take_exchange(alloc, vhosts, &mut names, index, value)?;
             kept.push(exchange)?;
             inert = add(inert, exchange_inert(value)?)?;
         }

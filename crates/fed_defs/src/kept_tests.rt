@@ -6,7 +6,7 @@ use std::alloc::Global;
 /// Whether this text is what is kept of the definitions.
 fn is_kept(alloc: Global, text: &str, kept: &str) -> bool {
     match Definitions::read(alloc, text.as_bytes(), "b") {
-        Ok(definitions) => definitions.kept.as_str() == kept,
+        Ok(definitions) => definitions.broker.kept.as_str() == kept,
         Err(_) => false,
     }
 }

@@ -1,12 +1,17 @@
 //! The names of objects, policies and parameters.
-ghost use Rattle.std.specs.Prelude.{◌≡◌, ◌≢◌, [], ◌∷◌, ◌++◌, None, Some, false, IfOk, IfErr, OnOk, if◌then◌else◌};
+ghost use Rattle.std.specs.Prelude.{◌≡◌, ◌≢◌, [], ◌∷◌, ◌++◌, None, Some, false, is_some, IfOk, IfErr, IfSome, OnOk, if◌then◌else◌, nat_eq};
+ghost use Rattle.std.specs.Cmp.Lexicographic.{pointwise};
+ghost use Rattle.std.specs.Cmp.Rules.{comparing, hashing};
+ghost use Rattle.std.specs.Hash as fed;
+ghost use Rattle.std.proofs.Common.{rules};
 ghost use Rattle.fed_defs.specs.Names as known;
 ghost use Rattle.fed_defs.specs.Paths.{whole_fault};
 
 use crate::fault::{KeyFault, Refusal};
 use crate::paths::at_item;
-use crate::value::is_word;
+use indexmap::IndexSet;
 use std::alloc::{AllocError, AllocFailed, Global};
+use std::hash::{Hash, Hasher};
 use std::marker::Model;
 
 /// A text, seen as its octets.
@@ -49,8 +54,32 @@ impl Word {
     }
 }
 
+impl PartialEq for Word {
+    ghost eq = { pointwise nat_eq };
+
+    ghost laws = { Prim.search (comparing, rules) };
+
+    fn eq(&self, other: &Word) -> bool {
+        self.inner.as_str() == other.inner.as_str()
+    }
+}
+
+impl Eq for Word {
+    ghost laws = { Prim.search (comparing, rules) };
+}
+
+impl Hash for Word {
+    ghost hash_input = { λ w. fed.str w };
+
+    ghost respects_eq = { Prim.search (hashing, rules) };
+
+    fn hash<H: Hasher>(&self, state: &mut H) {
+        self.inner.as_str().hash(state);
+    }
+}
+
 /// The name of an object, a policy or a parameter.
-#[derive(Debug, Drop)]
+#[derive(Debug, PartialEq, Eq, Hash, Drop)]
 pub(crate) struct Name {
     /// Its virtual host.
     pub(crate) vhost: Word,
@@ -60,20 +89,10 @@ pub(crate) struct Name {
     pub(crate) name: Word,
 }
 
-/// Whether two names are one.
-#[tactic(auto, unfolding(crate::specs::Names::same_name))]
-fn same_name(one: &Name, other: &Name) -> bool
-    ensures { result ≡ known.same_name one.now other.now }
-{
-    is_word(one.vhost.as_str(), other.vhost.as_str())
-        && is_word(one.component.as_str(), other.component.as_str())
-        && is_word(one.name.as_str(), other.name.as_str())
-}
-
-/// Names in their order, each once.
+/// Names in their order, each once, and looked up by hash.
 #[derive(Drop)]
 pub(crate) struct Names {
-    list: Vec<Name>,
+    set: IndexSet<Name>,
 }
 
 impl Model for Names {
@@ -82,7 +101,7 @@ impl Model for Names {
 
     ghost Value = { List Name };
 
-    ghost view = { λ n. n.list.items };
+    ghost view = { λ n. n.set.keys };
 }
 
 impl Names {
@@ -91,7 +110,7 @@ impl Names {
         ensures { result ≡ [] }
     {
         Names {
-            list: Vec::new(alloc),
+            set: IndexSet::new(alloc),
         }
     }
 
@@ -99,15 +118,15 @@ impl Names {
     pub(crate) fn as_slice(&self) -> &[Name]
         ensures { result.now ≡ self.now }
     {
-        self.list.as_slice()
+        self.set.as_slice()
     }
 
     /// Whether the name stands here.
-    #[tactic(auto, unfolding(crate::specs::Names::has_name))]
+    #[tactic(auto, unfolding(crate::specs::Names::has_name, crate::specs::Names::same_name))]
     pub(crate) fn has(&self, name: &Name) -> bool
         ensures { result ≡ known.has_name name.now self.now }
     {
-        self.list.iter().any(|other| same_name(name, other))
+        self.set.contains(name)
     }
 
     /// Puts a new name behind the others.
@@ -115,29 +134,25 @@ impl Names {
         requires { known.has_name name self.old ≡ false }
         ensures { OnOk result (self.new ≡ self.old ++ name ∷ []) }
     {
-        self.list.push(name)
+        self.note(name)
     }
 
     /// Puts a name behind the others if it is new.
+    #[tactic(auto, unfolding(crate::specs::Names::has_name, crate::specs::Names::same_name))]
     pub(crate) fn note(&mut self, name: Name) -> Result<(), AllocFailed<Name>>
         ensures { OnOk result (self.new ≡ (if known.has_name name self.old then self.old else self.old ++ name ∷ [])) }
     {
-        if self.has(&name) {
-            return Ok(());
-        }
-        self.add(name)
+        self.set.insert(name)?;
+        Ok(())
     }
 
-    /// The place of the name, and the number of the names where it isn't there.
-    pub(crate) fn place_of(&self, name: &Name) -> usize
-        ensures { result ≡ known.place_of name.now self.now }
+    /// The place of the name, where it stands here.
+    #[tactic(auto, unfolding(crate::specs::Names::has_name, crate::specs::Names::same_name))]
+    pub(crate) fn place_of(&self, name: &Name) -> Option<usize>
+        ensures found { is_some result ≡ known.has_name name.now self.now }
+        ensures place { IfSome result (λ place. place ≡ known.place_of name.now self.now) }
     {
-        for (place, other) in self.list.iter().enumerate() {
-            if same_name(name, other) {
-                return place;
-            }
-        }
-        self.list.len()
+        self.set.get_index_of(name)
     }
 }
 

@@ -57,10 +57,10 @@ fn give<T: Drop>(
 {
     let Placed { vhost, item } = placed;
     let name = vhost_named(alloc, Word::from_str(alloc, vhost.as_str())?);
-    if !vhosts.has(&name) {
-        return Ok(());
+    match vhosts.place_of(&name) {
+        Some(place) => push_at(lists, place, item),
+        None => Ok(()),
     }
-    push_at(lists, vhosts.place_of(&name), item)
 }
 
 /// The items of each virtual host.

@@ -1,8 +1,11 @@
 //! The queues of a definitions file.
-ghost use Rattle.std.specs.Prelude.{◌≡◌, ◌≢◌, [], None, Some, IfOk, OnOk, IfErr, MatchResult, codes, option_map, option_and_then};
+ghost use Rattle.std.specs.Prelude.{◌≡◌, ◌≢◌, [], ◌∷◌, ◌++◌, None, Some, IfOk, OnOk, IfErr, MatchResult, codes, option_map, option_and_then};
+ghost use Rattle.std.specs.Option.{option_or};
 ghost use Rattle.serde_json.specs.View.{view, items_view};
 ghost use Rattle.serde_json.specs.Find.{get, as_str, as_bool};
 ghost use Rattle.fed_defs.specs.Keys.{value_at, optional_fault, required_fault};
+ghost use Rattle.fed_defs.specs.Names.{has_name};
+ghost use Rattle.fed_defs.specs.Paths.{whole_fault};
 ghost use Rattle.fed_defs.specs.Queues as queues;
 ghost use Rattle.fed_defs.specs.Values as values;
 ghost use Rattle.fed_defs.specs.Vhosts as hosts;
@@ -222,6 +225,29 @@ fn queue_inert(value: &Value) -> Result<u32, KeyFault>
     inert_at(KeySet::Arguments, value, "arguments")
 }
 
+/// Reads a queue whose name doesn't stand among those before it, and puts its name behind them.
+fn take_queue(
+    alloc: Global,
+    vhosts: &Names,
+    names: &mut Names,
+    index: usize,
+    value: &Value,
+) -> Result<Placed<QueueDef>, KeyFault>
+    ensures read { IfOk result (λ queue. queue ≡ queues.queue_of (view value.now)) }
+    ensures named { OnOk result (names.new ≡ names.old ++ queues.object_name (view value.now) ∷ []) }
+    ensures ok { OnOk result (queues.queue_fault vhosts.now index (view value.now) ≡ None) }
+    ensures once { OnOk result (whole_fault (codes "queues") index (has_name (queues.object_name (view value.now)) names.old) ≡ None) }
+    ensures fault { IfErr result (λ fault. fault ≢ KeyFault.Memory
+        → option_or (queues.queue_fault vhosts.now index (view value.now))
+        (whole_fault (codes "queues") index (has_name (queues.object_name (view value.now)) names.old)) ≡ Some fault) }
+{
+    let queue = read_queue(alloc, vhosts, index, value)?;
+    let name = object_name(alloc, value)?;
+    once(alloc, names, &name, "queues", index)?;
+    names.add(name)?;
+    Ok(queue)
+}
+
 /// What the list of queues holds.
 #[derive(Drop)]
 pub(crate) struct QueueList {
@@ -275,10 +301,7 @@ pub(crate) fn read_queues(
     let mut inert = 0;
     for (index, value) in items.iter().enumerate() {
         if !is_passed_queue(value) {
-            let name = object_name(alloc, value)?;
-            let queue = read_queue(alloc, vhosts, index, value)?;
-            once(alloc, &names, &name, "queues", index)?;
-            names.add(name)?;
+            let queue = take_queue(alloc, vhosts, &mut names, index, value)?;
             kept.push(queue)?;
             inert = add(inert, queue_inert(value)?)?;
         }

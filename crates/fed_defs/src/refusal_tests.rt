@@ -41,7 +41,7 @@ fn refused_files(rt: HostRuntime) {
 }
 
 #[test]
-fn refused_hosts_and_clusters(rt: HostRuntime) {
+fn refused_hosts(rt: HostRuntime) {
     for (text, kind, path) in [
         ("{\"vhosts\":[{}]}", "shape", "vhosts[0].name"),
         (
@@ -54,6 +54,24 @@ fn refused_hosts_and_clusters(rt: HostRuntime) {
             "limit",
             "vhosts[0].name",
         ),
+        (
+            "{\"queues\":[{}],\"vhosts\":[{}]}",
+            "shape",
+            "vhosts[0].name",
+        ),
+        (
+            "{\"vhosts\":[{\"name\":\"a\"},{\"name\":\"a\"},{\"name\":7}]}",
+            "shape",
+            "vhosts[1]",
+        ),
+    ] {
+        assert!(rt; is_refused(rt.alloc(), text, kind, path), "at {text}");
+    }
+}
+
+#[test]
+fn refused_clusters(rt: HostRuntime) {
+    for (text, kind, path) in [
         (
             "{\"global_parameters\":[{\"name\":\"x\",\"value\":1.5},{\"name\":\"cluster_name\",\"value\":\"\"}]}",
             "shape",
@@ -68,16 +86,6 @@ fn refused_hosts_and_clusters(rt: HostRuntime) {
             "{\"global_parameters\":[{\"name\":\"cluster_name\",\"value\":1.5}]}",
             "float",
             "global_parameters[0].value",
-        ),
-        (
-            "{\"queues\":[{}],\"vhosts\":[{}]}",
-            "shape",
-            "vhosts[0].name",
-        ),
-        (
-            "{\"vhosts\":[{\"name\":\"a\"},{\"name\":\"a\"},{\"name\":7}]}",
-            "shape",
-            "vhosts[1]",
         ),
     ] {
         assert!(rt; is_refused(rt.alloc(), text, kind, path), "at {text}");
@@ -118,7 +126,7 @@ fn refused_parameters(rt: HostRuntime) {
 }
 
 #[test]
-fn refused_upstream_parameters(rt: HostRuntime) {
+fn refused_upstream_texts(rt: HostRuntime) {
     for (text, kind, path) in [
         (
             "{\"parameters\":[{\"component\":\"federation-upstream\",\"name\":\"x\",\"value\":{}}]}",
@@ -130,6 +138,24 @@ fn refused_upstream_parameters(rt: HostRuntime) {
             "shape",
             "parameters[0].value.uri",
         ),
+        (
+            "{\"parameters\":[{\"component\":\"federation-upstream\",\"name\":\"x\",\"value\":{\"uri\":\"amqp://a\",\"queue\":\"federation: q\"}}]}",
+            "shape",
+            "parameters[0].value.queue",
+        ),
+        (
+            "{\"parameters\":[{\"component\":\"federation-upstream\",\"name\":\"x\",\"value\":{\"uri\":\"amqp://a\",\"exchange\":\"nnnnnnnnnnnnnnnnnnnnnnnnnnnnnnnnnnnnnnnnnnnnnnnnnnnnnnnnnnnnnnnnnnnnnnnnnnnnnnnnnnnnnnnnnnnnnnnnnnnnnnnnnnnnnnnnnnnnnnnnnnnnnnnnnnnnnnnnnnnnnnnnnnnnnnnnnnnnnnnnnnnnnnnnnnnnnnnnnnnnnnnnnnnnnnnnnnnnnnnnnnnnnnnnnnnnnnnnnnnnnnnnnnnnnnnnnnnnnnnnnnnnnnnnnnnnnnnn\"}}]}",
+            "limit",
+            "parameters[0].value.exchange",
+        ),
+    ] {
+        assert!(rt; is_refused(rt.alloc(), text, kind, path), "at {text}");
+    }
+}
+
+#[test]
+fn refused_upstream_settings(rt: HostRuntime) {
+    for (text, kind, path) in [
         (
             "{\"parameters\":[{\"component\":\"federation-upstream\",\"name\":\"x\",\"value\":{\"uri\":\"amqp://a\",\"ack-mode\":\"never\"}}]}",
             "shape",
@@ -146,19 +172,9 @@ fn refused_upstream_parameters(rt: HostRuntime) {
             "parameters[0].value.prefetch-count",
         ),
         (
-            "{\"parameters\":[{\"component\":\"federation-upstream\",\"name\":\"x\",\"value\":{\"uri\":\"amqp://a\",\"queue\":\"federation: q\"}}]}",
-            "shape",
-            "parameters[0].value.queue",
-        ),
-        (
             "{\"parameters\":[{\"component\":\"federation-upstream\",\"name\":\"x\",\"value\":{\"uri\":\"amqp://a\",\"reconnect-delay\":1000001}}]}",
             "shape",
             "parameters[0].value.reconnect-delay",
-        ),
-        (
-            "{\"parameters\":[{\"component\":\"federation-upstream\",\"name\":\"x\",\"value\":{\"uri\":\"amqp://a\",\"exchange\":\"nnnnnnnnnnnnnnnnnnnnnnnnnnnnnnnnnnnnnnnnnnnnnnnnnnnnnnnnnnnnnnnnnnnnnnnnnnnnnnnnnnnnnnnnnnnnnnnnnnnnnnnnnnnnnnnnnnnnnnnnnnnnnnnnnnnnnnnnnnnnnnnnnnnnnnnnnnnnnnnnnnnnnnnnnnnnnnnnnnnnnnnnnnnnnnnnnnnnnnnnnnnnnnnnnnnnnnnnnnnnnnnnnnnnnnnnnnnnnnnnnnnnnnnnnnnnnnnn\"}}]}",
-            "limit",
-            "parameters[0].value.exchange",
         ),
     ] {
         assert!(rt; is_refused(rt.alloc(), text, kind, path), "at {text}");
@@ -217,29 +233,9 @@ fn refused_policies(rt: HostRuntime) {
             "policies[0].priority",
         ),
         (
-            "{\"policies\":[{\"name\":\"p\",\"pattern\":\"(\",\"definition\":{}}]}",
-            "pattern",
-            "policies[0].pattern",
-        ),
-        (
             "{\"policies\":[{\"name\":\"p\",\"pattern\":\"x\",\"definition\":{},\"apply-to\":\"some\"}]}",
             "shape",
             "policies[0].apply-to",
-        ),
-        (
-            "{\"policies\":[{\"name\":\"p\",\"pattern\":\"x\"}]}",
-            "shape",
-            "policies[0].definition",
-        ),
-        (
-            "{\"policies\":[{\"name\":\"p\",\"pattern\":\"x\",\"definition\":{\"federation-upstream\":\"nnnnnnnnnnnnnnnnnnnnnnnnnnnnnnnnnnnnnnnnnnnnnnnnnnnnnnnnnnnnnnnnnnnnnnnnnnnnnnnnnnnnnnnnnnnnnnnnnnnnnnnnnnnnnnnnnnnnnnnnnnnnnnnnnnnnnnnnnnnnnnnnnnnnnnnnnnnnnnnnnnnnnnnnnnnnnnnnnnnnnnnnnnnnnnnnnnnnnnnnnnnnnnnnnnnnnnnnnnnnnnnnnnnnnnnnnnnnnnnnnnnnnnnnnnnnnnnn\"}}]}",
-            "limit",
-            "policies[0].definition.federation-upstream",
-        ),
-        (
-            "{\"policies\":[{\"name\":\"p\",\"pattern\":\"x\",\"definition\":{\"federation-upstream-pattern\":\"[\"}}]}",
-            "pattern",
-            "policies[0].definition.federation-upstream-pattern",
         ),
         (
             "{\"policies\":[{\"vhost\":\"v\",\"name\":\"p\",\"pattern\":\"x\",\"definition\":{}}]}",
@@ -257,7 +253,35 @@ fn refused_policies(rt: HostRuntime) {
 }
 
 #[test]
-fn refused_objects(rt: HostRuntime) {
+fn refused_policy_definitions(rt: HostRuntime) {
+    for (text, kind, path) in [
+        (
+            "{\"policies\":[{\"name\":\"p\",\"pattern\":\"(\",\"definition\":{}}]}",
+            "pattern",
+            "policies[0].pattern",
+        ),
+        (
+            "{\"policies\":[{\"name\":\"p\",\"pattern\":\"x\"}]}",
+            "shape",
+            "policies[0].definition",
+        ),
+        (
+            "{\"policies\":[{\"name\":\"p\",\"pattern\":\"x\",\"definition\":{\"federation-upstream\":\"nnnnnnnnnnnnnnnnnnnnnnnnnnnnnnnnnnnnnnnnnnnnnnnnnnnnnnnnnnnnnnnnnnnnnnnnnnnnnnnnnnnnnnnnnnnnnnnnnnnnnnnnnnnnnnnnnnnnnnnnnnnnnnnnnnnnnnnnnnnnnnnnnnnnnnnnnnnnnnnnnnnnnnnnnnnnnnnnnnnnnnnnnnnnnnnnnnnnnnnnnnnnnnnnnnnnnnnnnnnnnnnnnnnnnnnnnnnnnnnnnnnnnnnnnnnnnnnn\"}}]}",
+            "limit",
+            "policies[0].definition.federation-upstream",
+        ),
+        (
+            "{\"policies\":[{\"name\":\"p\",\"pattern\":\"x\",\"definition\":{\"federation-upstream-pattern\":\"[\"}}]}",
+            "pattern",
+            "policies[0].definition.federation-upstream-pattern",
+        ),
+    ] {
+        assert!(rt; is_refused(rt.alloc(), text, kind, path), "at {text}");
+    }
+}
+
+#[test]
+fn refused_queues(rt: HostRuntime) {
     for (text, kind, path) in [
         (
             "{\"queues\":[{\"durable\":true}]}",
@@ -270,6 +294,24 @@ fn refused_objects(rt: HostRuntime) {
             "limit",
             "queues[0].name",
         ),
+        (
+            "{\"queues\":[{\"name\":\"q\"},{\"name\":\"q\",\"vhost\":\"/\"}]}",
+            "shape",
+            "queues[1]",
+        ),
+        (
+            "{\"vhosts\":[],\"queues\":[{\"name\":\"q\"}]}",
+            "vhost",
+            "queues[0].vhost",
+        ),
+    ] {
+        assert!(rt; is_refused(rt.alloc(), text, kind, path), "at {text}");
+    }
+}
+
+#[test]
+fn refused_queue_keys(rt: HostRuntime) {
+    for (text, kind, path) in [
         (
             "{\"queues\":[{\"name\":\"q\",\"durable\":1}]}",
             "shape",
@@ -290,16 +332,14 @@ fn refused_objects(rt: HostRuntime) {
             "shape",
             "queues[0].arguments.x-queue-type",
         ),
-        (
-            "{\"queues\":[{\"name\":\"q\"},{\"name\":\"q\",\"vhost\":\"/\"}]}",
-            "shape",
-            "queues[1]",
-        ),
-        (
-            "{\"vhosts\":[],\"queues\":[{\"name\":\"q\"}]}",
-            "vhost",
-            "queues[0].vhost",
-        ),
+    ] {
+        assert!(rt; is_refused(rt.alloc(), text, kind, path), "at {text}");
+    }
+}
+
+#[test]
+fn refused_exchanges(rt: HostRuntime) {
+    for (text, kind, path) in [
         (
             "{\"exchanges\":[{\"name\":\"x\"}]}",
             "shape",
@@ -358,6 +398,14 @@ fn refused_bindings(rt: HostRuntime) {
             "float",
             "bindings[0].routing_key",
         ),
+    ] {
+        assert!(rt; is_refused(rt.alloc(), text, kind, path), "at {text}");
+    }
+}
+
+#[test]
+fn refused_binding_arguments(rt: HostRuntime) {
+    for (text, kind, path) in [
         (
             "{\"queues\":[{\"name\":\"q\"}],\"bindings\":[{\"source\":\"amq.topic\",\"destination\":\"q\",\"arguments\":{\"a\":[1,{\"b\":1.5}]}}]}",
             "float",

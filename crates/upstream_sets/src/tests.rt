@@ -317,10 +317,12 @@ fn vhost_of(alloc: Global, case: &Case) -> Result<VhostConfig, Fail> {
 fn broker(alloc: Global, name: &str, vhosts: Vec<VhostConfig>) -> Result<BrokerConfig, Fail> {
     let cluster = Text::from_str(alloc, name)?;
     let name = cluster.clone()?;
+    let kept = Text::from_str(alloc, "{}")?;
     Ok(BrokerConfig {
         name,
         cluster,
         vhosts: Sequence::new(vhosts),
+        kept,
     })
 }
 
