@@ -1,4 +1,5 @@
 pub mod Alike
+pub mod Bare
 pub mod Clients
 pub mod Configured
 pub mod Consuming
@@ -15,8 +16,8 @@ pub mod Holding
 pub mod HostLemmas
 pub mod Matching
 pub mod Names
-pub mod Publications
 pub mod OwnedNames
+pub mod Publications
 pub mod PublishedStep
 pub mod Questions
 pub mod QueueRows
@@ -26,3 +27,4 @@ pub mod Routed
 pub mod Sites
 pub mod Tables
 pub mod ViewStep
+pub mod ViewsStep

@@ -1,6 +1,6 @@
 mod MailLemmas
 mod QueueLemmas
-mod NameLemmas
+pub mod NameLemmas
 mod AnswerLemmas
 mod PublishLemmas
 mod CloseLemmas

@@ -1,0 +1,132 @@
+-- The hosts of a run are views of its journal after one entry more.
+use Rattle.std.proofs.Common.{◌≡◌, ℕ, ◌+◌, ◌<◌, List, [], ◌∷◌, ◌++◌, Bool, true, false, cond, Option, Some, None, is_some, refl, sym, ap, subst, ◌∙◌, map, append_assoc, append-nil}
+use Rattle.std.specs.Prelude.{◌||◌, ◌&&◌, All, codes}
+use Rattle.std.specs.List.{list_any, list_all}
+use Rattle.std.proofs.lemmas.Bool.{true≢false, false≢true, and_parts, or_left, or_from}
+use Rattle.std.proofs.lemmas.List.Elements.{All-nil, All-cons, All-head, All-tail, All-push, All-weaker}
+use Rattle.fed_journal.specs.declared.place.Place.{Place}
+use Rattle.fed_journal.specs.declared.entry.Entry.{Entry}
+use Rattle.fed_journal.specs.declared.entry.Entry.TheVariants.{Begun}
+use Rattle.fed_journal.specs.Names.{same_text}
+use Rattle.fed_journal.specs.Configuration.{begins, is_broker}
+use Rattle.mini_broker.specs.State.{VhostState}
+use Rattle.mini_broker.specs.Vhosts.{bare}
+use Rattle.broker_view.specs.declared.host.Host.{Host}
+use Rattle.broker_view.specs.Hosts.{place_of, recorded_at, with_host, AreViews, IsRecordable, IsNext, LeadsOn}
+use Rattle.broker_view.specs.Recorded.{recorded}
+use Rattle.broker_view.specs.Suits.{Suits, EachSuits, is_begun}
+use Rattle.broker_view.specs.View.{AreDistinct, IsView}
+use Rattle.broker_view.proofs.Bare.{bare-view}
+use Rattle.broker_view.proofs.Names.{same_text-true, same_text-refl, same_text-sym}
+use Rattle.broker_view.proofs.ViewStep.{view-step}
+
+any-append : {X : Type 0} (test : X → Bool) (xs ys : List X) → list_any test (xs ++ ys) ≡ (list_any test xs || list_any test ys)
+any-append test [] ys = refl
+any-append test (x ∷ xs) ys = elim (test x) as (λ b. (b || list_any test (xs ++ ys)) ≡ ((b || list_any test xs) || list_any test ys)) [ true ↦ refl | false ↦ any-append test xs ys ]
+
+or-false : (b : Bool) → b ≡ (b || false)
+or-false true = refl
+or-false false = refl
+
+-- ---- an entry that begins no broker
+
+other-begins : (b : List ℕ) (e : Entry) → is_begun e ≡ false → begins b e ≡ false
+other-begins b (Begun broker cluster kept) h = absurd (true≢false h)
+other-begins b e h = refl
+
+same-brokers : (J : List Entry) (e : Entry) (b : List ℕ) → is_begun e ≡ false → is_broker J b ≡ is_broker (J ++ e ∷ []) b
+same-brokers J e b h =
+    sym (any-append (begins b) J (e ∷ []) ∙ ap (λ x. is_broker J b || (x || false)) (other-begins b e h) ∙ sym (or-false (is_broker J b)))
+
+mapped-names : (n : ℕ) (e : Entry) (hosts : List Host) → map (λ (h : Host). h.broker) hosts ≡ map (λ (h : Host). h.broker) (map (recorded_at n e) hosts)
+mapped-names n e [] = refl
+mapped-names n e (h ∷ hosts) = ap (λ ns. h.broker ∷ ns) (mapped-names n e hosts)
+
+mapped-any : (n : ℕ) (e : Entry) (b : List ℕ) (hosts : List Host) → list_any (λ (h : Host). same_text h.broker b) (map (recorded_at n e) hosts) ≡ list_any (λ (h : Host). same_text h.broker b) hosts
+mapped-any n e b [] = refl
+mapped-any n e b (h ∷ hosts) = ap (λ x. same_text h.broker b || x) (mapped-any n e b hosts)
+
+mapped-views : (n : ℕ) (J : List Entry) (e : Entry) (hosts : List Host) → Suits J e → All (λ (h : Host). IsView J (place_of h.broker) h.vhost) hosts → All (λ (h : Host). IsView (J ++ e ∷ []) (place_of h.broker) h.vhost) (map (recorded_at n e) hosts)
+mapped-views n J e [] suits all = All-nil (λ (h : Host). IsView (J ++ e ∷ []) (place_of h.broker) h.vhost)
+mapped-views n J e (h ∷ hosts) suits all =
+    All-cons (λ (x : Host). IsView (J ++ e ∷ []) (place_of x.broker) x.vhost) (recorded_at n e h) (map (recorded_at n e) hosts)
+      (view-step n J (place_of h.broker) e h.vhost (All-head (λ (x : Host). IsView J (place_of x.broker) x.vhost) h hosts all) suits)
+      (mapped-views n J e hosts suits (All-tail (λ (x : Host). IsView J (place_of x.broker) x.vhost) h hosts all))
+
+pub views-step : (n : ℕ) (J : List Entry) (e : Entry) (hosts : List Host) → is_begun e ≡ false → AreViews J hosts → Suits J e → AreViews (J ++ e ∷ []) (map (recorded_at n e) hosts)
+views-step n J e hosts other views suits = record {
+  brokers = λ b. mapped-any n e b hosts ∙ views.brokers b ∙ same-brokers J e b other;
+  distinct = subst AreDistinct (mapped-names n e hosts) views.distinct;
+  views = mapped-views n J e hosts suits views.views;
+}
+
+-- ---- a broker that begins
+
+-- what stands stays so
+begun-views : (J : List Entry) (b cluster kept : List ℕ) (hosts : List Host) → Suits J (Begun b cluster kept) → All (λ (h : Host). IsView J (place_of h.broker) h.vhost) hosts → All (λ (h : Host). IsView (J ++ Begun b cluster kept ∷ []) (place_of h.broker) h.vhost) hosts
+begun-views J b cluster kept hosts suits all =
+    All-weaker (λ (h : Host). IsView J (place_of h.broker) h.vhost) (λ (h : Host). IsView (J ++ Begun b cluster kept ∷ []) (place_of h.broker) h.vhost)
+      (λ h view. view-step 0 J (place_of h.broker) (Begun b cluster kept) h.vhost view suits) hosts all
+
+begun-broker : (J : List Entry) (b cluster kept n : List ℕ) → is_broker (J ++ Begun b cluster kept ∷ []) n ≡ (is_broker J n || same_text b n)
+begun-broker J b cluster kept n = any-append (begins n) J (Begun b cluster kept ∷ []) ∙ ap (λ x. is_broker J n || x) (sym (or-false (same_text b n)))
+
+-- the broker stands already
+known-by : (x y : Bool) → (y ≡ true → x ≡ true) → x ≡ (x || y)
+known-by true y h = refl
+known-by false true h = absurd (false≢true (h refl))
+known-by false false h = refl
+
+again-views : (J : List Entry) (b cluster kept : List ℕ) (hosts : List Host) → list_any (λ (h : Host). same_text h.broker b) hosts ≡ true → AreViews J hosts → Suits J (Begun b cluster kept) → AreViews (J ++ Begun b cluster kept ∷ []) hosts
+again-views J b cluster kept hosts there views suits = record {
+  brokers = λ n. views.brokers n ∙ known-by (is_broker J n) (same_text b n) (λ same. ap (is_broker J) (sym (same_text-true b n same)) ∙ sym (views.brokers b) ∙ there) ∙ sym (begun-broker J b cluster kept n);
+  distinct = views.distinct;
+  views = begun-views J b cluster kept hosts suits views.views;
+}
+
+names-any : (b : List ℕ) (hosts : List Host) → list_any (same_text b) (map (λ (h : Host). h.broker) hosts) ≡ list_any (λ (h : Host). same_text h.broker b) hosts
+names-any b [] = refl
+names-any b (h ∷ hosts) = ap (λ x. x || list_any (same_text b) (map (λ (y : Host). y.broker) hosts)) (same_text-sym b h.broker) ∙ ap (λ x. same_text h.broker b || x) (names-any b hosts)
+
+distinct-push : (ns : List (List ℕ)) (b : List ℕ) → list_any (same_text b) ns ≡ false → AreDistinct ns → AreDistinct (ns ++ b ∷ [])
+distinct-push [] b none distinct = (refl, tt)
+distinct-push (n ∷ ns) b none distinct =
+    (any-append (same_text n) ns (b ∷ []) ∙ or_from (list_any (same_text n) ns) (same_text n b || false) distinct.0 (ap (λ x. x || false) (same_text-sym n b) ∙ sym (or-false (same_text b n)) ∙ (or-parts (same_text b n) (list_any (same_text b) ns) none).0),
+     distinct-push ns b (or-parts (same_text b n) (list_any (same_text b) ns) none).1 distinct.1)
+  where
+    or-parts : (x y : Bool) → (x || y) ≡ false → (x ≡ false) × (y ≡ false)
+    or-parts true y h = absurd (true≢false h)
+    or-parts false y h = (refl, h)
+
+host_of : List ℕ → Host
+host_of b = record { broker = b; vhost = bare }
+
+pushed-names : (b : List ℕ) (hosts : List Host) → map (λ (h : Host). h.broker) hosts ++ b ∷ [] ≡ map (λ (h : Host). h.broker) (hosts ++ record { broker = b; vhost = bare } ∷ [])
+pushed-names b [] = refl
+pushed-names b (h ∷ hosts) = ap (λ ns. h.broker ∷ ns) (pushed-names b hosts)
+
+new-views : (J : List Entry) (b cluster kept : List ℕ) (hosts : List Host) → list_any (λ (h : Host). same_text h.broker b) hosts ≡ false → AreViews J hosts → Suits J (Begun b cluster kept) → AreViews (J ++ Begun b cluster kept ∷ []) (hosts ++ record { broker = b; vhost = bare } ∷ [])
+new-views J b cluster kept hosts none views suits = record {
+  brokers = λ n. any-append (λ (h : Host). same_text h.broker n) hosts (record { broker = b; vhost = bare } ∷ []) ∙ ap (λ x. list_any (λ (h : Host). same_text h.broker n) hosts || x) (sym (or-false (same_text b n))) ∙ ap (λ x. x || same_text b n) (views.brokers n) ∙ sym (begun-broker J b cluster kept n);
+  distinct = subst AreDistinct (pushed-names b hosts) (distinct-push (map (λ (h : Host). h.broker) hosts) b (names-any b hosts ∙ none) views.distinct);
+  views = All-push (λ (h : Host). IsView (J ++ Begun b cluster kept ∷ []) (place_of h.broker) h.vhost) hosts (record { broker = b; vhost = bare }) (begun-views J b cluster kept hosts suits views.views)
+    (view-step 0 J (place_of b) (Begun b cluster kept) bare (bare-view J (place_of b) suits) suits);
+}
+
+begun-by : (J : List Entry) (b cluster kept : List ℕ) (hosts : List Host) (c : Bool) → list_any (λ (h : Host). same_text h.broker b) hosts ≡ c → AreViews J hosts → Suits J (Begun b cluster kept) → AreViews (J ++ Begun b cluster kept ∷ []) (cond c hosts (hosts ++ record { broker = b; vhost = bare } ∷ []))
+begun-by J b cluster kept hosts true there views suits = again-views J b cluster kept hosts there views suits
+begun-by J b cluster kept hosts false none views suits = new-views J b cluster kept hosts none views suits
+
+pub begun-step : (b cluster kept : List ℕ) (hosts : List Host) → LeadsOn hosts (Begun b cluster kept) (with_host b hosts)
+begun-step b cluster kept hosts = λ J views suits. begun-by J b cluster kept hosts (list_any (λ (h : Host). same_text h.broker b) hosts) refl views suits
+
+pub recorded-step : (n : ℕ) (e : Entry) (hosts now : List Host) → is_begun e ≡ false → now ≡ map (recorded_at n e) hosts → LeadsOn hosts e now
+recorded-step n e hosts now other is = λ J views suits. subst (AreViews (J ++ e ∷ [])) (sym is) (views-step n J e hosts other views suits)
+
+pub all-recordable : (hosts : List Host) (e : Entry) → IsNext hosts e → All (λ (h : Host). IsRecordable h e) hosts
+all-recordable hosts e next =
+    All-weaker (λ (h : Host). IsView next.journal (place_of h.broker) h.vhost) (λ (h : Host). IsRecordable h e)
+      (λ h view. record { journal = next.journal; view = view; suits = next.suits }) hosts next.views.views
+
+pub no-views : AreViews [] []
+no-views = record { brokers = λ b. refl; distinct = tt; views = All-nil (λ (h : Host). IsView [] (place_of h.broker) h.vhost) }
