@@ -9,12 +9,12 @@ use Rattle.fed_journal.specs.declared.entry.Entry.{Entry}
 use Rattle.fed_journal.specs.declared.entry.Entry.TheVariants.{MadeQueue, GoneQueue, Closed}
 use Rattle.fed_journal.specs.Configuration.{is_queue, options_step, queue_options, queue_owner, is_exclusive, is_exclusive_in, is_connection_in, queues_step, queues_of, goes_with, queues_owned}
 use Rattle.fed_journal.specs.Names.{same_text, same_place}
-use Rattle.broker_view.specs.Suits.{Suits, EachSuits}
+use Rattle.broker_view.specs.Suits.{EachSuits}
 use Rattle.broker_view.specs.View.{AreDistinct}
 use Rattle.broker_view.proofs.Configured.{options-push, queues-push}
 use Rattle.broker_view.proofs.Names.{same_text-true, same_text-sym, same_place-true}
 use Rattle.broker_view.proofs.Tables.{distinct-push, distinct-filter}
-use Rattle.fed_world.specs.Run.{IsReached, begin, run, last_journal}
+use Rattle.fed_world.specs.Run.{IsReached, begin, run}
 use Rattle.fed_world.proofs.Causes.{Caused, EachCaused}
 use Rattle.fed_world.proofs.RunKept.{begin-caused, last-caused}
 
@@ -147,10 +147,12 @@ gone-suit K p (q ∷ qs) distinct h = (h.0, gone-suit (K ++ GoneQueue p q ∷ []
 -- the entries of a connection's end suit the journal (AMQP 0-9-1, connection.close)
 pub close-suits : (J : List Entry) (p : Place) (n : ℕ) → EachCaused [] J → EachSuits J (Closed p n ∷ map (GoneQueue p) (queues_owned J p n))
 unfolding queues_owned
-close-suits J p n caused =
-    (tt, gone-suit (J ++ Closed p n ∷ []) p (filter (goes_with J p n) (queues_of J p))
+close-suits J p n caused = (
+  tt,
+  gone-suit (J ++ Closed p n ∷ []) p (filter (goes_with J p n) (queues_of J p))
       (distinct-filter (goes_with J p n) (queues_of J p) (queues-distinct J p caused))
-      (owned-stand J (J ++ Closed p n ∷ []) p n (queues_of J p) (λ q. options-push J (Closed p n) p q)))
+      (owned-stand J (J ++ Closed p n ∷ []) p n (queues_of J p) (λ q. options-push J (Closed p n) p q)),
+)
 
 -- ---- in every run
 
