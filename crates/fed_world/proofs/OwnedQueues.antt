@@ -14,7 +14,7 @@ use Rattle.broker_view.specs.View.{AreDistinct}
 use Rattle.broker_view.proofs.Configured.{options-push, queues-push}
 use Rattle.broker_view.proofs.Names.{same_text-true, same_text-sym, same_place-true}
 use Rattle.broker_view.proofs.Tables.{distinct-push, distinct-filter}
-use Rattle.fed_world.specs.Run.{IsReached, begin, run}
+use Rattle.fed_world.specs.Run.{IsReached, begin}
 use Rattle.fed_world.proofs.Causes.{Caused, EachCaused}
 use Rattle.fed_world.proofs.RunKept.{begin-caused, last-caused}
 
