@@ -8,6 +8,7 @@ pub mod LimitLemmas
 pub mod LinkNames
 pub mod Lists
 pub mod Moved
+pub mod OwnedQueues
 pub mod Queues
 pub mod Reached
 pub mod RowCaused
