@@ -1,7 +1,7 @@
 -- Each entry that a row appends suits the journal before it.
 use Rattle.std.proofs.Common.{◌≡◌, ℕ, ◌+◌, List, [], ◌∷◌, ◌++◌, Bool, true, false, Option, Some, None, refl, sym, subst}
 use Rattle.std.specs.Prelude.{Ok, Err, not, ◌||◌, is_some, map, find}
-use Rattle.std.proofs.lemmas.Bool.{true≢false}
+use Rattle.std.proofs.lemmas.Bool.{true≢false, or_parts}
 use Rattle.amqp_props.specs.declared.link.QueueOptions.{QueueOptions}
 use Rattle.amqp_props.specs.declared.message.Message.{Message}
 use Rattle.route_core.specs.declared.binding.Binding.{Binding}
@@ -19,7 +19,7 @@ use Rattle.fed_journal.specs.declared.entry.Publication.{Publication}
 use Rattle.fed_journal.specs.declared.entry.Entry.{Entry}
 use Rattle.fed_journal.specs.declared.entry.Entry.TheVariants.{MadeQueue, GoneQueue, Closed, Flushed, ShovelSet, Took, Opened}
 use Rattle.fed_journal.specs.Configuration.{is_broker, queue_options, exchange_shape, queues_owned}
-use Rattle.fed_journal.specs.Names.{same_text}
+use Rattle.fed_journal.specs.Names.{same_text, is_reserved}
 use Rattle.fed_journal.specs.Routes.{is_bound, routes}
 use Rattle.fed_journal.specs.Copies.{copy_count, standing, is_secured, publication_of}
 use Rattle.fed_journal.specs.Flight.{flight_took, flight_sent, flight_published, flight_confirmed, flight_noted}
@@ -69,9 +69,8 @@ declare_row-suits J p client q options =
     at_place-has (EachSuits J) J p _ (either-has (EachSuits J) (is_refused J p q) _ _ tt (unless_refused-has (EachSuits J) (lock_refusal J p client q) _ (declared_queue-suits J p client q options (queue_options J p q) refl)))
 
 -- a name that isn't refused isn't empty
-first-false : (a b : Bool) → (a || b) ≡ false → a ≡ false
-first-false true b h = absurd (true≢false h)
-first-false false b h = refl
+refused-named : (J : List Entry) (p : Place) (x : List ℕ) → is_exchange_refused J p x ≡ false → same_text x [] ≡ false
+refused-named J p x h = (or_parts (same_text x []) (is_reserved x) (or_parts (same_text x [] || is_reserved x) _ h).0).0
 
 declared_exchange-suits : (J : List Entry) (p : Place) (x : List ℕ) (shape : ExchangeShape) (was : Option ExchangeShape) → same_text x [] ≡ false → exchange_shape J p x ≡ was → RowSuits J (declared_exchange p x shape was)
 declared_exchange-suits J p x shape None named e = ((e, named), tt)
@@ -80,7 +79,7 @@ declared_exchange-suits J p x shape (Some was) named e = either-has (EachSuits J
 declare_exchange_row-suits : (J : List Entry) (p : Place) (x : List ℕ) (shape : ExchangeShape) → RowSuits J (declare_exchange_row J p x shape)
 unfolding declare_exchange_row
 declare_exchange_row-suits J p x shape =
-    at_place-has (EachSuits J) J p _ (if_not-has (EachSuits J) (is_exchange_refused J p x) _ _ tt (λ h. declared_exchange-suits J p x shape (exchange_shape J p x) (first-false (same_text x []) _ h) refl))
+    at_place-has (EachSuits J) J p _ (if_not-has (EachSuits J) (is_exchange_refused J p x) _ _ tt (λ h. declared_exchange-suits J p x shape (exchange_shape J p x) (refused-named J p x h) refl))
 
 bind_row-suits : (J : List Entry) (p : Place) (client : ℕ) (b : Binding) → RowSuits J (bind_row J p client b)
 unfolding bind_row
@@ -169,7 +168,7 @@ set_shovel_row-suits J p name shovel =
 
 -- the target's queue is made where it is missing
 target-suits : (K : List Entry) (target : Place) (q l : List ℕ) (s r : ℕ) (missing : Bool) → (missing ≡ true → queue_options K target q ≡ None) → EachSuits K (made_if missing target q ++ Opened l s r ∷ [])
-target-suits K target q l s r true fresh = (fresh refl, tt, tt)
+target-suits K target q l s r true fresh = (fresh refl, (tt, tt))
 target-suits K target q l s r false fresh = (tt, tt)
 
 -- the source's queue before it
