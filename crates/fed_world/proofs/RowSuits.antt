@@ -55,7 +55,7 @@ use Rattle.fed_world.proofs.RowHas.{RowHas, either-has, if_not-has, at_place-has
 use Rattle.fed_world.proofs.RowCaused.{not_there, target-missing, target-fresh, take-cause, answer-held}
 use Rattle.fed_world.proofs.Standings.{waiting-is}
 
--- so do the entries of the row, if it has any
+-- the entries of the row do, if it has any
 abbrev pub RowSuits : List Entry → Row → Type 0
 RowSuits J row = RowHas (EachSuits J) row
 

@@ -2,7 +2,7 @@
 #![tactic(auto)]
 
 pub mod kept;
-pub mod laws_suits;
+mod laws_suits;
 pub mod limits;
 pub mod reason;
 pub mod row;
