@@ -17,24 +17,23 @@ use Rattle.fed_journal.specs.declared.entry.Publisher.{Publisher}
 use Rattle.fed_journal.specs.declared.entry.Publisher.TheVariants.{Client, Link}
 use Rattle.fed_journal.specs.declared.entry.Publication.{Publication}
 use Rattle.fed_journal.specs.declared.entry.Entry.{Entry}
-use Rattle.fed_journal.specs.declared.entry.Entry.TheVariants.{MadeQueue, GoneQueue, Closed, Flushed, ShovelSet, Took, Opened}
+use Rattle.fed_journal.specs.declared.entry.Entry.TheVariants.{MadeQueue, GoneQueue, Closed, Published, Flushed, ShovelSet, Took, Opened}
 use Rattle.fed_journal.specs.Configuration.{is_broker, queue_options, exchange_shape, queues_owned}
 use Rattle.fed_journal.specs.Names.{same_text, is_reserved}
 use Rattle.fed_journal.specs.Routes.{is_bound, routes}
-use Rattle.fed_journal.specs.Copies.{copy_count, standing, is_secured, publication_of}
+use Rattle.fed_journal.specs.Copies.{standing, is_secured, publication_of}
 use Rattle.fed_journal.specs.Flight.{flight_took, flight_sent, flight_published, flight_confirmed, flight_noted}
 use Rattle.fed_journal.specs.Holds.{first_ready, ready_count}
 use Rattle.fed_journal.specs.Consumers.{Consumer, consumer}
 use Rattle.fed_journal.specs.Links.{is_shovel_set}
 use Rattle.fed_journal.specs.Outgoing.{outgoing}
 use Rattle.fed_journal.specs.Phases.{phase, session, is_open}
-use Rattle.mini_broker.specs.Publish.{first_of}
 use Rattle.broker_view.specs.Suits.{Suits, EachSuits}
 use Rattle.fed_world.specs.declared.reason.Reason.TheVariants as why
 use Rattle.fed_world.specs.Row.{Row, oldest, lock_refusal, queue_refusal, channel_of}
 use Rattle.fed_world.specs.Declare.{declare_row, declared_queue, same_options, declare_exchange_row, declared_exchange, same_shape, is_exchange_refused, stands, is_refused, lasting}
 use Rattle.fed_world.specs.Bind.{bind_refusal, bind_row, unbind_row}
-use Rattle.fed_world.specs.Publish.{publish_row, publish_refusal, published, first_copy}
+use Rattle.fed_world.specs.Publish.{publish_row, publish_refusal, publication, published}
 use Rattle.fed_world.specs.Consume.{consumes, consume_row, cancel_row}
 use Rattle.fed_world.specs.Deliver.{is_busy, deliver_to, deliver_row}
 use Rattle.fed_world.specs.Get.{get_row}
@@ -92,13 +91,13 @@ unbind_row-suits J p client b =
     at_place-has (EachSuits J) J p _ (unless_refused-has (EachSuits J) (bind_refusal J p client b) _ (either-has (EachSuits J) (is_bound J p b) _ (Ok []) (tt, tt) tt))
 
 -- the first copy of a publication has the next number
-first-copy : (J : List Entry) (queues : List (List ℕ)) → first_copy J queues ≡ first_of (copy_count J + 1) queues
-first-copy J [] = refl
-first-copy J (q ∷ qs) = refl
+publication-suits : (J : List Entry) (p : Place) (by : Publisher) (m : Message) (queues : List (List ℕ)) → queues ≡ routes J p m → Suits J (Published (publication J p by m queues))
+publication-suits J p by m [] e = (refl, e)
+publication-suits J p by m (q ∷ qs) e = (refl, e)
 
 -- whoever publishes
 published-suits : (J : List Entry) (p : Place) (by : Publisher) (m : Message) → Suits J (published J p by m)
-published-suits J p by m = (first-copy J (routes J p m), refl)
+published-suits J p by m = publication-suits J p by m (routes J p m) refl
 
 publish_row-suits : (J : List Entry) (p : Place) (client : ℕ) (m : Message) → RowSuits J (publish_row J p client m)
 unfolding publish_row
