@@ -14,6 +14,7 @@ pub mod Reached
 pub mod RowCaused
 pub mod RowFits
 pub mod RowHas
+pub mod RowSuits
 pub mod RunKept
 pub mod SizeLemmas
 pub mod SoundLemmas

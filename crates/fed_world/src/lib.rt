@@ -2,7 +2,6 @@
 #![tactic(auto)]
 
 pub mod kept;
-mod laws_gone;
 pub mod limits;
 pub mod reason;
 pub mod row;
