@@ -1,5 +1,6 @@
 pub mod Causes
 pub mod Described
+pub mod Ends
 pub mod Held
 pub mod Homes
 pub mod Inversions

@@ -14,9 +14,7 @@ use Rattle.broker_view.specs.View.{AreDistinct}
 use Rattle.broker_view.proofs.Configured.{options-push, queues-push}
 use Rattle.broker_view.proofs.Names.{same_text-true, same_text-sym, same_place-true}
 use Rattle.broker_view.proofs.Tables.{distinct-push, distinct-filter}
-use Rattle.fed_world.specs.Run.{IsReached, begin}
 use Rattle.fed_world.proofs.Causes.{Caused, EachCaused}
-use Rattle.fed_world.proofs.RunKept.{begin-caused, last-caused}
 
 -- ---- one name more, one name less
 
@@ -153,17 +151,3 @@ close-suits J p n caused = (
       (distinct-filter (goes_with J p n) (queues_of J p) (queues-distinct J p caused))
       (owned-stand J (J ++ Closed p n ∷ []) p n (queues_of J p) (λ q. options-push J (Closed p n) p q)),
 )
-
--- ---- in every run
-
-reached-caused : (J : List Entry) → IsReached J → EachCaused [] J
-reached-caused J h = subst (EachCaused []) (sym h.leads) (last-caused (begin h.brokers) h.events (begin-caused [] h.brokers refl))
-
-pub reached-distinct : (J : List Entry) → IsReached J → (p : Place) → AreDistinct (queues_of J p)
-reached-distinct J h p = queues-distinct J p (reached-caused J h)
-
-pub reached-stand : (J : List Entry) → IsReached J → (p : Place) (q : List ℕ) → list_any (same_text q) (queues_of J p) ≡ is_some (queue_options J p q)
-reached-stand J h p q = queues-stand J p q (reached-caused J h)
-
-pub reached-close : (J : List Entry) → IsReached J → (p : Place) (n : ℕ) → EachSuits J (Closed p n ∷ map (GoneQueue p) (queues_owned J p n))
-reached-close J h p n = close-suits J p n (reached-caused J h)

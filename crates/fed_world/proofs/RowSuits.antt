@@ -1,7 +1,9 @@
 -- Each entry that a row appends suits the journal before it.
-use Rattle.std.proofs.Common.{◌≡◌, ℕ, ◌+◌, List, [], ◌∷◌, ◌++◌, Bool, true, false, Option, Some, None, refl, sym, subst}
-use Rattle.std.specs.Prelude.{Ok, Err, not, ◌||◌, is_some, map, find}
+use Rattle.std.proofs.Common.{◌≡◌, ℕ, ◌+◌, List, [], ◌∷◌, ◌++◌, Bool, true, false, Option, Some, None, refl, sym, subst, ap, ◌∙◌}
+use Rattle.std.specs.Prelude.{Ok, Err, not, ◌&&◌, ◌||◌, is_some, map, find}
+use Rattle.std.specs.List.{list_all}
 use Rattle.std.proofs.lemmas.Bool.{true≢false, or_parts}
+use Rattle.std.proofs.lemmas.List.Folds.{list_all-append}
 use Rattle.amqp_props.specs.declared.link.QueueOptions.{QueueOptions}
 use Rattle.amqp_props.specs.declared.message.Message.{Message}
 use Rattle.route_core.specs.declared.binding.Binding.{Binding}
@@ -17,7 +19,7 @@ use Rattle.fed_journal.specs.declared.entry.Publisher.{Publisher}
 use Rattle.fed_journal.specs.declared.entry.Publisher.TheVariants.{Client, Link}
 use Rattle.fed_journal.specs.declared.entry.Publication.{Publication}
 use Rattle.fed_journal.specs.declared.entry.Entry.{Entry}
-use Rattle.fed_journal.specs.declared.entry.Entry.TheVariants.{MadeQueue, GoneQueue, Closed, Published, Flushed, ShovelSet, Took, Opened}
+use Rattle.fed_journal.specs.declared.entry.Entry.TheVariants.{MadeQueue, Published, Flushed, ShovelSet, Took, Opened}
 use Rattle.fed_journal.specs.Configuration.{is_broker, queue_options, exchange_shape, queues_owned}
 use Rattle.fed_journal.specs.Names.{same_text, is_reserved}
 use Rattle.fed_journal.specs.Routes.{is_bound, routes}
@@ -28,7 +30,7 @@ use Rattle.fed_journal.specs.Consumers.{Consumer, consumer}
 use Rattle.fed_journal.specs.Links.{is_shovel_set}
 use Rattle.fed_journal.specs.Outgoing.{outgoing}
 use Rattle.fed_journal.specs.Phases.{phase, session, is_open}
-use Rattle.broker_view.specs.Suits.{Suits, EachSuits}
+use Rattle.broker_view.specs.Suits.{is_begun, Suits, EachSuits}
 use Rattle.fed_world.specs.declared.reason.Reason.TheVariants as why
 use Rattle.fed_world.specs.Row.{Row, oldest, lock_refusal, queue_refusal, channel_of}
 use Rattle.fed_world.specs.Declare.{declare_row, declared_queue, same_options, declare_exchange_row, declared_exchange, same_shape, is_exchange_refused, stands, is_refused, lasting}
@@ -50,6 +52,10 @@ use Rattle.fed_world.specs.Confirm.{confirm_row, confirm_first, confirmed}
 use Rattle.fed_world.specs.Note.{note_row}
 use Rattle.fed_world.specs.Settle.{settle_row}
 use Rattle.fed_world.specs.Step.{next}
+use Rattle.fed_world.specs.Fits as fits
+use Rattle.fed_world.specs.Run.{begin, begun}
+use Rattle.fed_world.proofs.Causes.{EachCaused}
+use Rattle.fed_world.proofs.OwnedQueues.{close-suits}
 use Rattle.fed_world.proofs.RowHas.{RowHas, either-has, if_not-has, at_place-has, with_link-has, while_open-has, one_or_empty-has, unless_refused-has, unless_known_refused-has}
 use Rattle.fed_world.proofs.RowCaused.{not_there, target-missing, target-fresh, take-cause, answer-held}
 use Rattle.fed_world.proofs.Standings.{waiting-is}
@@ -148,13 +154,9 @@ purge_row-suits : (J : List Entry) (p : Place) (client : ℕ) (q : List ℕ) →
 unfolding purge_row
 purge_row-suits J p client q = at_place-has (EachSuits J) J p _ (unless_refused-has (EachSuits J) (queue_refusal J p client q) _ (tt, tt))
 
-gone-suits : (J : List Entry) (p : Place) (qs : List (List ℕ)) → EachSuits J (map (GoneQueue p) qs)
-gone-suits J p [] = tt
-gone-suits J p (q ∷ qs) = (tt, gone-suits (J ++ GoneQueue p q ∷ []) p qs)
-
-close_row-suits : (J : List Entry) (p : Place) (client : ℕ) → RowSuits J (close_row J p client)
+close_row-suits : (J : List Entry) (p : Place) (client : ℕ) → EachCaused [] J → RowSuits J (close_row J p client)
 unfolding close_row
-close_row-suits J p client = at_place-has (EachSuits J) J p _ (tt, gone-suits (J ++ Closed p client ∷ []) p (queues_owned J p client))
+close_row-suits J p client caused = at_place-has (EachSuits J) J p _ (close-suits J p client caused)
 
 flush_row-suits : (J : List Entry) (b : List ℕ) → RowSuits J (flush_row J b)
 unfolding flush_row
@@ -246,35 +248,40 @@ settle_row-suits J l =
     with_link-has (EachSuits J) J l _ (λ spec d. while_open-has (EachSuits J) J l _ (one_or_empty-has (EachSuits J) _ (oldest (flight_noted J l (session J l))) (λ c e. (tt, tt))))
 
 -- whatever the event
-pub row-suits : (J : List Entry) (event : Event) → RowSuits J (next J event)
-row-suits J (DeclareQueue p c q options) = declare_row-suits J p c q options
-row-suits J (DeclareExchange p c x shape) = declare_exchange_row-suits J p x shape
-row-suits J (Bind p c b) = bind_row-suits J p c b
-row-suits J (Unbind p c b) = unbind_row-suits J p c b
-row-suits J (Publish p c m) = publish_row-suits J p c m
-row-suits J (Consume p client q tag no_ack prefetch) = consume_row-suits J p client q tag no_ack prefetch
-row-suits J (Cancel p client tag) = cancel_row-suits J p client tag
-row-suits J (Deliver p client tag) = deliver_row-suits J p client tag
-row-suits J (Get p client q no_ack) = get_row-suits J p client q no_ack
-row-suits J (Ack p client c) = ack_row-suits J p client c
-row-suits J (Reject p client c) = reject_row-suits J p client c
-row-suits J (Requeue p client c) = requeue_row-suits J p client c
-row-suits J (Purge p client q) = purge_row-suits J p client q
-row-suits J (Close p client) = close_row-suits J p client
-row-suits J (Flush b) = flush_row-suits J b
-row-suits J (SetShovel p name shovel) = set_shovel_row-suits J p name shovel
-row-suits J (Open l) = open_row-suits J l
-row-suits J (Take l) = take_row-suits J l
-row-suits J (Send l) = send_row-suits J l
-row-suits J (Accept l) = accept_row-suits J l
-row-suits J (Confirm l) = confirm_row-suits J l
-row-suits J (Note l) = note_row-suits J l
-row-suits J (Settle l) = settle_row-suits J l
-row-suits J Show = tt
+row-suits : (J : List Entry) (event : Event) → EachCaused [] J → RowSuits J (next J event)
+row-suits J (DeclareQueue p c q options) caused = declare_row-suits J p c q options
+row-suits J (DeclareExchange p c x shape) caused = declare_exchange_row-suits J p x shape
+row-suits J (Bind p c b) caused = bind_row-suits J p c b
+row-suits J (Unbind p c b) caused = unbind_row-suits J p c b
+row-suits J (Publish p c m) caused = publish_row-suits J p c m
+row-suits J (Consume p client q tag no_ack prefetch) caused = consume_row-suits J p client q tag no_ack prefetch
+row-suits J (Cancel p client tag) caused = cancel_row-suits J p client tag
+row-suits J (Deliver p client tag) caused = deliver_row-suits J p client tag
+row-suits J (Get p client q no_ack) caused = get_row-suits J p client q no_ack
+row-suits J (Ack p client c) caused = ack_row-suits J p client c
+row-suits J (Reject p client c) caused = reject_row-suits J p client c
+row-suits J (Requeue p client c) caused = requeue_row-suits J p client c
+row-suits J (Purge p client q) caused = purge_row-suits J p client q
+row-suits J (Close p client) caused = close_row-suits J p client caused
+row-suits J (Flush b) caused = flush_row-suits J b
+row-suits J (SetShovel p name shovel) caused = set_shovel_row-suits J p name shovel
+row-suits J (Open l) caused = open_row-suits J l
+row-suits J (Take l) caused = take_row-suits J l
+row-suits J (Send l) caused = send_row-suits J l
+row-suits J (Accept l) caused = accept_row-suits J l
+row-suits J (Confirm l) caused = confirm_row-suits J l
+row-suits J (Note l) caused = note_row-suits J l
+row-suits J (Settle l) caused = settle_row-suits J l
+row-suits J Show caused = tt
 
--- the row is the event's
-pub known_row-suits : (J : List Entry) (row : Row) (event : Event) → next J event ≡ row → RowSuits J row
-known_row-suits J row event h = subst (RowSuits J) h (row-suits J event)
+row-is : (J : List Entry) (row : Row) → RowSuits J row → fits.RowSuits J row
+row-is J (Ok entries) h = h
+row-is J (Err reason) h = tt
 
-pub extended-suits : (J es : List Entry) (event : Event) → Ok es ≡ next J event → EachSuits J es
-extended-suits J es event h = known_row-suits J (Ok es) event (sym h)
+pub next-suits : (J : List Entry) (event : Event) → EachCaused [] J → fits.RowSuits J (next J event)
+next-suits J event caused = row-is J (next J event) (row-suits J event caused)
+
+-- the brokers' entries suit a journal of brokers
+pub begin-suits : (J : List Entry) (brokers : List (List ℕ)) → list_all is_begun J ≡ true → EachSuits J (begin brokers)
+begin-suits J [] h = tt
+begin-suits J (b ∷ bs) h = (h, begin-suits (J ++ begun b ∷ []) bs (list_all-append is_begun J (begun b ∷ []) ∙ ap (λ v. v && true) h))
