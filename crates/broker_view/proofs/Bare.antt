@@ -75,7 +75,7 @@ bare-from K [] p all begun view = subst (λ J. IsView J p bare) (sym (append-nil
 bare-from K (e ∷ es) p all begun view =
     let parts : (is_begun e ≡ true) × (list_all is_begun es ≡ true) = and_parts (is_begun e) (list_all is_begun es) begun in
     subst (λ J. IsView J p bare) (append_assoc K (e ∷ []) es)
-      (bare-from (K ++ e ∷ []) es p (all-push K e all parts.0) parts.1 (begun-view K e p parts.0 all view))
+    (bare-from (K ++ e ∷ []) es p (all-push K e all parts.0) parts.1 (begun-view K e p parts.0 all view))
 
 pub bare-view : (J : List Entry) (p : Place) → list_all is_begun J ≡ true → IsView J p bare
 bare-view J p begun = bare-from [] J p refl begun (first-view p)

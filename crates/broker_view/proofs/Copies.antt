@@ -94,18 +94,20 @@ held-stays J e p v w c Left hold other keeps k = absurd k
 
 -- the journal has it as before
 pub row-stays : (J : List Entry) (e : Entry) (p : Place) (q : List ℕ) (v w : VhostState) (row now : Row) (h : HasHome J p q row.copy) → NotHanded e row.copy → Keeps J p v e w → RowStands J p v row → moved row.copy h.publication (standing row.copy J) e ≡ standing row.copy J → now.copy ≡ row.copy → now.hold ≡ row.hold → Follows (J ++ e ∷ []) p w row (Some now)
-row-stays J e p q v w row now h other keeps k same copy hold =
-    (copy,
-     subst (λ c. StandsAs (J ++ e ∷ []) p w c (standing c (J ++ e ∷ [])) now.hold) (sym copy)
-     (subst (λ t. StandsAs (J ++ e ∷ []) p w row.copy t now.hold) (sym (standing-moved J e p q v row.copy row.hold h k ∙ same))
-     (subst (λ x. StandsAs (J ++ e ∷ []) p w row.copy (standing row.copy J) x) (sym hold) (held-stays J e p v w row.copy (standing row.copy J) row.hold other keeps k))))
+row-stays J e p q v w row now h other keeps k same copy hold = (
+  copy,
+  subst (λ c. StandsAs (J ++ e ∷ []) p w c (standing c (J ++ e ∷ [])) now.hold) (sym copy)
+      (subst (λ t. StandsAs (J ++ e ∷ []) p w row.copy t now.hold) (sym (standing-moved J e p q v row.copy row.hold h k ∙ same))
+      (subst (λ x. StandsAs (J ++ e ∷ []) p w row.copy (standing row.copy J) x) (sym hold) (held-stays J e p v w row.copy (standing row.copy J) row.hold other keeps k))),
+)
 
 -- its standing and its hold are new
 pub row-becomes : (J : List Entry) (e : Entry) (p : Place) (q : List ℕ) (v w : VhostState) (row now : Row) (h : HasHome J p q row.copy) (t : Standing) → RowStands J p v row → moved row.copy h.publication (standing row.copy J) e ≡ t → now.copy ≡ row.copy → StandsAs (J ++ e ∷ []) p w row.copy t now.hold → Follows (J ++ e ∷ []) p w row (Some now)
-row-becomes J e p q v w row now h t k same copy stands =
-    (copy,
-     subst (λ c. StandsAs (J ++ e ∷ []) p w c (standing c (J ++ e ∷ [])) now.hold) (sym copy)
-     (subst (λ s. StandsAs (J ++ e ∷ []) p w row.copy s now.hold) (sym (standing-moved J e p q v row.copy row.hold h k ∙ same)) stands))
+row-becomes J e p q v w row now h t k same copy stands = (
+  copy,
+  subst (λ c. StandsAs (J ++ e ∷ []) p w c (standing c (J ++ e ∷ [])) now.hold) (sym copy)
+      (subst (λ s. StandsAs (J ++ e ∷ []) p w row.copy s now.hold) (sym (standing-moved J e p q v row.copy row.hold h k ∙ same)) stands),
+)
 
 -- it leaves
 pub row-leaves : (J : List Entry) (e : Entry) (p : Place) (q : List ℕ) (v w : VhostState) (row : Row) (h : HasHome J p q row.copy) → RowStands J p v row → moved row.copy h.publication (standing row.copy J) e ≡ Left → Follows (J ++ e ∷ []) p w row None

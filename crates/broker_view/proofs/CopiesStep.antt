@@ -56,10 +56,10 @@ cond-rows false v u q same = refl
 handed-here : (J : List Entry) (place p : Place) (client : Client) (tag queue : List ℕ) (copy : ℕ) (no_ack : Bool) (v : VhostState) (q : List ℕ) → place ≡ p → same_text q queue ≡ true → Keeps J p v (Delivered place client tag queue copy no_ack) (with_handed client tag queue copy no_ack v) → IsChannel (J ++ Delivered place client tag queue copy no_ack ∷ []) p (with_handed client tag queue copy no_ack v) copy place client tag (holder_as client tag v) → IsStep J (Delivered place client tag queue copy no_ack) p v (with_handed client tag queue copy no_ack v) q
 handed-here J place p client tag queue copy true v q here on keeps fresh =
     without-step J (Delivered place client tag queue copy true) p v (with_handed client tag queue copy true v) copy q (λ d x t. refl) (λ d other. other) keeps
-      (changed-rows_none (mail.given copy (holder_as client tag v) true) (rows.without copy) (λ x. refl) refl queue v.queues q ∙ ap (λ b. cond b (rows.without copy (rows_in q v.queues)) (rows_in q v.queues)) on)
+    (changed-rows_none (mail.given copy (holder_as client tag v) true) (rows.without copy) (λ x. refl) refl queue v.queues q ∙ ap (λ b. cond b (rows.without copy (rows_in q v.queues)) (rows_in q v.queues)) on)
 handed-here J place p client tag queue copy false v q here on keeps fresh =
     with_hold-step J (Delivered place client tag queue copy false) p v (with_handed client tag queue copy false v) copy (Held (holders.Channel place client tag)) (numbers.Held (holder_as client tag v)) q (λ d x t. refl) (λ d other. other) keeps fresh
-      (changed-rows_none (mail.given copy (holder_as client tag v) false) (rows.handed copy (holder_as client tag v)) (λ x. refl) refl queue v.queues q ∙ ap (λ b. cond b (rows.handed copy (holder_as client tag v) (rows_in q v.queues)) (rows_in q v.queues)) on)
+    (changed-rows_none (mail.given copy (holder_as client tag v) false) (rows.handed copy (holder_as client tag v)) (λ x. refl) refl queue v.queues q ∙ ap (λ b. cond b (rows.handed copy (holder_as client tag v) (rows_in q v.queues)) (rows_in q v.queues)) on)
 
 not-at : (J : List Entry) (place p : Place) (queue q : List ℕ) (copy : ℕ) → HasHome J place queue copy → ((p ≡ place) × (q ≡ queue) → ⊥) → (c : ℕ) → HasHome J p q c → copy ≡ c → ⊥
 not-at J place p queue q copy home other c h is = other (same-home J p place q queue c copy h home is)
@@ -98,7 +98,7 @@ purged-at J place p queue q v true on here keeps =
     (purged-step J p q v (with_purged queue v) (subst (λ n. Keeps J p v (Purged p n) (with_purged queue v)) (sym name) (subst (λ r. Keeps J p v (Purged r queue) (with_purged queue v)) here keeps)) same))
 purged-at J place p queue q v false off here keeps =
     unpurged-step J place p queue q v (with_purged queue v) (other-queue p place q queue off) keeps
-      (changed-rows_none mail.purged (filter rows.is_held) (λ x. refl) refl queue v.queues q ∙ ap (λ b. cond b (filter rows.is_held (rows_in q v.queues)) (rows_in q v.queues)) off)
+    (changed-rows_none mail.purged (filter rows.is_held) (λ x. refl) refl queue v.queues q ∙ ap (λ b. cond b (filter rows.is_held (rows_in q v.queues)) (rows_in q v.queues)) off)
 
 purged-by : (J : List Entry) (place p : Place) (queue : List ℕ) (v : VhostState) (b : Bool) → same_place place p ≡ b → Keeps J p v (Purged place queue) (cond b (with_purged queue v) v) → (q : List ℕ) → IsStep J (Purged place queue) p v (cond b (with_purged queue v) v) q
 purged-by J place p queue v true here keeps q = purged-at J place p queue q v (same_text q queue) refl (same_place-true place p here) keeps
@@ -153,22 +153,22 @@ pub copies-step : (n : ℕ) (J : List Entry) (p : Place) (e : Entry) (v : VhostS
 copies-step n J p (Published x) v has known suits routed keeps fresh = published-by J x p v (same_place x.place p) refl known suits has routed keeps
 copies-step n J p (Delivered place client tag queue copy no_ack) v has known suits routed keeps fresh =
     number-step n J p (Delivered place client tag queue copy no_ack) v has known suits (λ q. refl)
-      (delivered-by J place p client tag queue copy no_ack v (same_place place p) refl (first-home J place queue copy has.homes suits) keeps fresh)
+    (delivered-by J place p client tag queue copy no_ack v (same_place place p) refl (first-home J place queue copy has.homes suits) keeps fresh)
 copies-step n J p (Took l s c) v has known suits routed keeps fresh =
     number-step n J p (Took l s c) v has known suits (λ q. refl)
-      (λ q. with_hold-step J (Took l s c) p v (recorded n p (Took l s c) v) c (Held (holders.Session l s)) (numbers.Held (session_holder n s)) q (λ d x t. refl) (λ d o. tt) keeps refl (all-rows (mail.handed c (session_holder n s)) (rows.handed c (session_holder n s)) (λ x. refl) refl v.queues q))
+    (λ q. with_hold-step J (Took l s c) p v (recorded n p (Took l s c) v) c (Held (holders.Session l s)) (numbers.Held (session_holder n s)) q (λ d x t. refl) (λ d o. tt) keeps refl (all-rows (mail.handed c (session_holder n s)) (rows.handed c (session_holder n s)) (λ x. refl) refl v.queues q))
 copies-step n J p (Settled l s c) v has known suits routed keeps fresh =
     number-step n J p (Settled l s c) v has known suits (λ q. refl)
-      (λ q. without-step J (Settled l s c) p v (recorded n p (Settled l s c) v) c q (λ d x t. refl) (λ d o. tt) keeps (all-rows (mail.left c) (rows.without c) (λ x. refl) refl v.queues q))
+    (λ q. without-step J (Settled l s c) p v (recorded n p (Settled l s c) v) c q (λ d x t. refl) (λ d o. tt) keeps (all-rows (mail.left c) (rows.without c) (λ x. refl) refl v.queues q))
 copies-step n J p (Acked place client c) v has known suits routed keeps fresh =
     number-step n J p (Acked place client c) v has known suits (λ q. refl)
-      (λ q. without-step J (Acked place client c) p v (recorded n p (Acked place client c) v) c q (λ d x t. refl) (λ d o. tt) keeps (all-rows (mail.left c) (rows.without c) (λ x. refl) refl v.queues q))
+    (λ q. without-step J (Acked place client c) p v (recorded n p (Acked place client c) v) c q (λ d x t. refl) (λ d o. tt) keeps (all-rows (mail.left c) (rows.without c) (λ x. refl) refl v.queues q))
 copies-step n J p (Rejected place client c) v has known suits routed keeps fresh =
     number-step n J p (Rejected place client c) v has known suits (λ q. refl)
-      (λ q. without-step J (Rejected place client c) p v (recorded n p (Rejected place client c) v) c q (λ d x t. refl) (λ d o. tt) keeps (all-rows (mail.left c) (rows.without c) (λ x. refl) refl v.queues q))
+    (λ q. without-step J (Rejected place client c) p v (recorded n p (Rejected place client c) v) c q (λ d x t. refl) (λ d o. tt) keeps (all-rows (mail.left c) (rows.without c) (λ x. refl) refl v.queues q))
 copies-step n J p (Requeued place client c) v has known suits routed keeps fresh =
     number-step n J p (Requeued place client c) v has known suits (λ q. refl)
-      (λ q. with_hold-step J (Requeued place client c) p v (recorded n p (Requeued place client c) v) c Ready numbers.Ready q (λ d x t. refl) (λ d o. tt) keeps tt (all-rows (mail.released c) (rows.released c) (λ x. refl) refl v.queues q))
+    (λ q. with_hold-step J (Requeued place client c) p v (recorded n p (Requeued place client c) v) c Ready numbers.Ready q (λ d x t. refl) (λ d o. tt) keeps tt (all-rows (mail.released c) (rows.released c) (λ x. refl) refl v.queues q))
 copies-step n J p (Purged place queue) v has known suits routed keeps fresh =
     number-step n J p (Purged place queue) v has known suits (λ q. refl) (purged-by J place p queue v (same_place place p) refl keeps)
 copies-step n J p (GoneQueue place queue) v has known suits routed keeps fresh =
@@ -179,22 +179,22 @@ copies-step n J p (Flushed broker) v has known suits routed keeps fresh =
     number-step n J p (Flushed broker) v has known suits (λ q. refl) (flushed-by J broker p v (same_text broker p.broker) keeps)
 copies-step n J p (MadeQueue place queue options owner) v has known suits routed keeps fresh =
     still J (MadeQueue place queue options owner) p v (recorded n p (MadeQueue place queue options owner) v) has known suits (λ q. refl) (λ c x t. refl) (λ c. tt) keeps
-      (λ q. cond-rows (same_place place p) v (with_queue queue options owner v) q (made-rows (queue, made_queue v.made options owner) refl v.queues q))
+    (λ q. cond-rows (same_place place p) v (with_queue queue options owner v) q (made-rows (queue, made_queue v.made options owner) refl v.queues q))
 copies-step n J p (MadeExchange place exchange shape) v has known suits routed keeps fresh =
     still J (MadeExchange place exchange shape) p v (recorded n p (MadeExchange place exchange shape) v) has known suits (λ q. refl) (λ c x t. refl) (λ c. tt) keeps
-      (λ q. cond-rows (same_place place p) v (with_exchange exchange shape v) q refl)
+    (λ q. cond-rows (same_place place p) v (with_exchange exchange shape v) q refl)
 copies-step n J p (Bound place binding) v has known suits routed keeps fresh =
     still J (Bound place binding) p v (recorded n p (Bound place binding) v) has known suits (λ q. refl) (λ c x t. refl) (λ c. tt) keeps
-      (λ q. cond-rows (same_place place p) v (with_routing (bound binding v.routing) v) q refl)
+    (λ q. cond-rows (same_place place p) v (with_routing (bound binding v.routing) v) q refl)
 copies-step n J p (Unbound place binding) v has known suits routed keeps fresh =
     still J (Unbound place binding) p v (recorded n p (Unbound place binding) v) has known suits (λ q. refl) (λ c x t. refl) (λ c. tt) keeps
-      (λ q. cond-rows (same_place place p) v (with_routing (unbound binding v.routing) v) q refl)
+    (λ q. cond-rows (same_place place p) v (with_routing (unbound binding v.routing) v) q refl)
 copies-step n J p (Consumed place client queue tag no_ack prefetch) v has known suits routed keeps fresh =
     still J (Consumed place client queue tag no_ack prefetch) p v (recorded n p (Consumed place client queue tag no_ack prefetch) v) has known suits (λ q. refl) (λ c x t. refl) (λ c. tt) keeps
-      (λ q. cond-rows (same_place place p) v (with_consumer (new_consumer client queue tag no_ack prefetch v) v) q refl)
+    (λ q. cond-rows (same_place place p) v (with_consumer (new_consumer client queue tag no_ack prefetch v) v) q refl)
 copies-step n J p (Cancelled place client tag) v has known suits routed keeps fresh =
     still J (Cancelled place client tag) p v (recorded n p (Cancelled place client tag) v) has known suits (λ q. refl) (λ c x t. refl) (λ c. tt) keeps
-      (λ q. cond-rows (same_place place p) v (without_consumer client tag v) q refl)
+    (λ q. cond-rows (same_place place p) v (without_consumer client tag v) q refl)
 copies-step n J p (Begun broker cluster kept) v has known suits routed keeps fresh = still J (Begun broker cluster kept) p v v has known suits (λ q. refl) (λ c x t. refl) (λ c. tt) keeps (λ q. refl)
 copies-step n J p (Sent l s c) v has known suits routed keeps fresh = still J (Sent l s c) p v v has known suits (λ q. refl) (λ d x t. refl) (λ d. tt) keeps (λ q. refl)
 copies-step n J p (Confirmed l s c) v has known suits routed keeps fresh = still J (Confirmed l s c) p v v has known suits (λ q. refl) (λ d x t. refl) (λ d. tt) keeps (λ q. refl)

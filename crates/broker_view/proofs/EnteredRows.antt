@@ -78,8 +78,8 @@ stand-on : (first : List ℕ) (n : ℕ) (m : Message) (queues : List Named) (nam
 stand-on first n m queues [] all = All-nil (λ name. is_some (queue_of name (changed first (with_mail (entered n m)) queues)) ≡ true)
 stand-on first n m queues (name ∷ names) all =
     All-cons (λ name. is_some (queue_of name (changed first (with_mail (entered n m)) queues)) ≡ true) name names
-      (stands_changed name first (with_mail (entered n m)) queues ∙ All-head (λ name. is_some (queue_of name queues) ≡ true) name names all)
-      (stand-on first n m queues names (All-tail (λ name. is_some (queue_of name queues) ≡ true) name names all))
+    (stands_changed name first (with_mail (entered n m)) queues ∙ All-head (λ name. is_some (queue_of name queues) ≡ true) name names all)
+    (stand-on first n m queues names (All-tail (λ name. is_some (queue_of name queues) ≡ true) name names all))
 
 pub entered-rows : (names : List (List ℕ)) (n : ℕ) (m : Message) (queues : List Named) → AreDistinct names → All (λ name. is_some (queue_of name queues) ≡ true) names → (q : List ℕ) → rows_in q (all_entered names n m queues) ≡ rows_in q queues ++ entering q names n
 entered-rows [] n m queues distinct stand q = sym (append-nil (rows_in q queues))

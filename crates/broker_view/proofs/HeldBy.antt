@@ -58,10 +58,10 @@ not-away J c d false off there away = refl
 found-row : (J : List Entry) (p : Place) (v : VhostState) (cs : List ℕ) (rs : List Row) (c : ℕ) → Matches J p v rs cs → list_any (λ n. n == c) cs ≡ true → is_there J c ≡ true → IsFound J p v rs c
 found-row J p v [] rs c m any there = absurd (false≢true any)
 found-row J p v (d ∷ cs) rs c m any there = elim (matches-cases J p v rs d cs m) [
-    | inl r ↦ subst (λ xs. IsFound J p v xs c) (sym r.rows') (first-found J p v r.row r.rest c (r.row.copy == c) refl r.stands
-        (λ off. found-row J p v cs r.rest c r.matches (rest-any c d cs (ap (λ n. n == c) (sym r.copy) ∙ off) any) there))
-    | inr a ↦ found-row J p v cs rs c a.matches (rest-any c d cs (not-away J c d (d == c) refl there a.away) any) there
-  ]
+  | inl r ↦ subst (λ xs. IsFound J p v xs c) (sym r.rows') (first-found J p v r.row r.rest c (r.row.copy == c) refl r.stands
+      (λ off. found-row J p v cs r.rest c r.matches (rest-any c d cs (ap (λ n. n == c) (sym r.copy) ∙ off) any) there))
+  | inr a ↦ found-row J p v cs rs c a.matches (rest-any c d cs (not-away J c d (d == c) refl there a.away) any) there
+]
 
 -- ---- from the journal to the queues
 
@@ -226,5 +226,5 @@ queues-held J p v k c (Some n) has distinct at h = queue-held J p v k c n has di
 pub held_by-is : (J : List Entry) (p : Place) (v : VhostState) (k : Client) (c : ℕ) → HasCopies J p v → AreDistinct (map (λ (q : Named). q.0) v.queues) → holds_as (position (consumers.is_client k) v.clients) c v.queues ≡ is_held_by J p k c
 held_by-is J p v k c has distinct =
     alike (holds_as (position (consumers.is_client k) v.clients) c v.queues) (is_held_by J p k c)
-      (queues-held J p v k c (position (consumers.is_client k) v.clients) has distinct refl)
-      (journal-held J p v k c has)
+    (queues-held J p v k c (position (consumers.is_client k) v.clients) has distinct refl)
+    (journal-held J p v k c has)

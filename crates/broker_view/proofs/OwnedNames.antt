@@ -28,7 +28,7 @@ all-among : (queues : List Named) → AreDistinct (map (λ (q : Named). q.0) que
 all-among [] distinct = All-nil (λ (q : Named). IsAmong q [])
 all-among (e ∷ queues) distinct =
     All-cons (λ (q : Named). IsAmong q (e ∷ queues)) e queues (among-head e queues)
-      (All-weaker (λ (q : Named). IsAmong q queues) (λ (q : Named). IsAmong q (e ∷ queues)) (λ q a. among-later q e queues distinct.0 a) queues (all-among queues distinct.1))
+    (All-weaker (λ (q : Named). IsAmong q queues) (λ (q : Named). IsAmong q (e ∷ queues)) (λ q a. among-later q e queues distinct.0 a) queues (all-among queues distinct.1))
 
 owner-as : (n : ℕ) (o : Option ℕ) → option_map_or (λ owner. owner == n) o false ≡ is_connection_in n o
 owner-as n None = refl

@@ -46,7 +46,7 @@ home-at x p q k place at =
     let away : x.first + k - x.first ≡ k = omega arith in
     let name : slice_get x.queues (x.first + k - x.first) ≡ Some at.0 = ap (slice_get x.queues) away ∙ at.1 in
     and_from (same_place x.place p) (is_name_of q (slice_get x.queues (x.first + k - x.first))) place
-      (ap (is_name_of q) name ∙ ap (λ n. same_text n q) (sym (same_text-true q at.0 at.2)) ∙ same_text-refl q)
+    (ap (is_name_of q) name ∙ ap (λ n. same_text n q) (sym (same_text-true q at.0 at.2)) ∙ same_text-refl q)
 
 pub is-new : (J : List Entry) (x : Publication) (p : Place) (q : List ℕ) (k : ℕ) → ((c : ℕ) → copy_count J < c → publication_of c J ≡ None) → Suits J (Published x) → same_place x.place p ≡ true → position (same_text q) x.queues ≡ Some k → IsNew J x p q (x.first + k)
 is-new J x p q k known suits place at = record {
@@ -108,16 +108,16 @@ still-matches : (J : List Entry) (x : Publication) (p : Place) (q : List ℕ) (v
 still-matches J x p q v w has keeps =
     subst (λ rs. Matches (J ++ Published x ∷ []) p w rs (entered J p q)) (none-changed (rows_in q v.queues))
     (change-all J (J ++ Published x ∷ []) p q v w (λ row. Some row)
-      (record { follows = λ row h k. row-stays J (Published x) p q v w row row h tt keeps k refl refl refl; away = away J (Published x) p q })
-      (entered J p q) (rows_in q v.queues) (has.homes p q) (record { numbers = has.numbers q; stand = has.rows q }))
+    (record { follows = λ row h k. row-stays J (Published x) p q v w row row h tt keeps k refl refl refl; away = away J (Published x) p q })
+    (entered J p q) (rows_in q v.queues) (has.homes p q) (record { numbers = has.numbers q; stand = has.rows q }))
 
 -- the rows of the place after a publication there
 published-matches : (J : List Entry) (x : Publication) (p : Place) (q : List ℕ) (v w : VhostState) → ((c : ℕ) → copy_count J < c → publication_of c J ≡ None) → Suits J (Published x) → same_place x.place p ≡ true → HasCopies J p v → Keeps J p v (Published x) w → rows_in q w.queues ≡ rows_in q v.queues ++ entering q x.queues x.first → Matches (J ++ Published x ∷ []) p w (rows_in q w.queues) (entered (J ++ Published x ∷ []) p q)
 published-matches J x p q v w known suits place has keeps same =
     subst (λ rs. Matches (J ++ Published x ∷ []) p w rs (entered (J ++ Published x ∷ []) p q)) (sym same)
     (subst (λ cs. Matches (J ++ Published x ∷ []) p w (rows_in q v.queues ++ entering q x.queues x.first) cs)
-      (sym (entered-push J (Published x) p q ∙ ap (λ b. entered J p q ++ cons_option (cond b (option_map (λ k. x.first + k) (position (same_text q) x.queues)) None) []) place))
-      (published-by J x p q w (rows_in q v.queues) (entered J p q) (position (same_text q) x.queues) (λ k at. is-new J x p q k known suits place at) (still-matches J x p q v w has keeps)))
+    (sym (entered-push J (Published x) p q ∙ ap (λ b. entered J p q ++ cons_option (cond b (option_map (λ k. x.first + k) (position (same_text q) x.queues)) None) []) place))
+    (published-by J x p q w (rows_in q v.queues) (entered J p q) (position (same_text q) x.queues) (λ k at. is-new J x p q k known suits place at) (still-matches J x p q v w has keeps)))
 
 pub published-copies : (J : List Entry) (x : Publication) (p : Place) (v w : VhostState) → ((c : ℕ) → copy_count J < c → publication_of c J ≡ None) → Suits J (Published x) → same_place x.place p ≡ true → HasCopies J p v → Keeps J p v (Published x) w → ((q : List ℕ) → rows_in q w.queues ≡ rows_in q v.queues ++ entering q x.queues x.first) → HasCopies (J ++ Published x ∷ []) p w
 published-copies J x p v w known suits place has keeps same = record {

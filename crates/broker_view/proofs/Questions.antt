@@ -50,10 +50,10 @@ find-row says test row rest c cs false off same is later = later ∙ sym (ap (λ
 pub find-as : (J : List Entry) (p : Place) (v : VhostState) (test : Row → Bool) (says : ℕ → Bool) → SaySame J p v test says → (cs : List ℕ) (rs : List Row) → Matches J p v rs cs → option_map (λ (r : Row). r.copy) (find test rs) ≡ find says cs
 find-as J p v test says say [] rs m = ap (λ x. option_map (λ (r : Row). r.copy) (find test x)) (empty-rows J p v rs m)
 find-as J p v test says say (c ∷ cs) rs m = elim (matches-cases J p v rs c cs m) [
-    | inl r ↦ ap (λ x. option_map (λ (y : Row). y.copy) (find test x)) r.rows'
-        ∙ find-row says test r.row r.rest c cs (test r.row) refl (say.rows r.row r.stands ∙ ap says r.copy) r.copy (find-as J p v test says say cs r.rest r.matches)
-    | inr a ↦ find-as J p v test says say cs rs a.matches ∙ sym (ap (λ b. cond b (Some c) (find says cs)) (say.away c a.away))
-  ]
+  | inl r ↦ ap (λ x. option_map (λ (y : Row). y.copy) (find test x)) r.rows'
+      ∙ find-row says test r.row r.rest c cs (test r.row) refl (say.rows r.row r.stands ∙ ap says r.copy) r.copy (find-as J p v test says say cs r.rest r.matches)
+  | inr a ↦ find-as J p v test says say cs rs a.matches ∙ sym (ap (λ b. cond b (Some c) (find says cs)) (say.away c a.away))
+]
 
 count-cons : {X : Type 0} (test : X → Bool) (x : X) (xs : List X) → count_by test (x ∷ xs) ≡ cond (test x) 1 0 + count_by test xs
 count-cons test x xs = sum_by-append (λ x. cond (test x) 1 0) (x ∷ []) xs ∙ omega arith
@@ -61,14 +61,14 @@ count-cons test x xs = sum_by-append (λ x. cond (test x) 1 0) (x ∷ []) xs ∙
 pub count-as : (J : List Entry) (p : Place) (v : VhostState) (test : Row → Bool) (says : ℕ → Bool) → SaySame J p v test says → (cs : List ℕ) (rs : List Row) → Matches J p v rs cs → count_by test rs ≡ count_by says cs
 count-as J p v test says say [] rs m = ap (count_by test) (empty-rows J p v rs m)
 count-as J p v test says say (c ∷ cs) rs m = elim (matches-cases J p v rs c cs m) [
-    | inl r ↦ ap (count_by test) r.rows'
-        ∙ count-cons test r.row r.rest
-        ∙ ap (λ b. cond b 1 0 + count_by test r.rest) (say.rows r.row r.stands ∙ ap says r.copy)
-        ∙ ap (λ n. cond (says c) 1 0 + n) (count-as J p v test says say cs r.rest r.matches)
-        ∙ sym (count-cons says c cs)
-    | inr a ↦ count-as J p v test says say cs rs a.matches
-        ∙ sym (count-cons says c cs ∙ ap (λ b. cond b 1 0 + count_by says cs) (say.away c a.away) ∙ omega arith)
-  ]
+  | inl r ↦ ap (count_by test) r.rows'
+      ∙ count-cons test r.row r.rest
+      ∙ ap (λ b. cond b 1 0 + count_by test r.rest) (say.rows r.row r.stands ∙ ap says r.copy)
+      ∙ ap (λ n. cond (says c) 1 0 + n) (count-as J p v test says say cs r.rest r.matches)
+      ∙ sym (count-cons says c cs)
+  | inr a ↦ count-as J p v test says say cs rs a.matches
+      ∙ sym (count-cons says c cs ∙ ap (λ b. cond b 1 0 + count_by says cs) (say.away c a.away) ∙ omega arith)
+]
 
 matches-of : (J : List Entry) (p : Place) (v : VhostState) (q : List ℕ) → HasCopies J p v → Matches J p v (rows_in q v.queues) (entered J p q)
 matches-of J p v q has = record { numbers = has.numbers q; stand = has.rows q }

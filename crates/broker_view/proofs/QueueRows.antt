@@ -51,8 +51,8 @@ changed-by m h same name e queues q true on later =
     here-rows m h same e.1 (queue_of q queues) (bytes_eq q e.0) ∙ ap (λ n. cond (same_text q n) (h (rows_in q (e ∷ queues))) (rows_in q (e ∷ queues))) (sym (same_text-true name e.0 on))
 changed-by m h same name e queues q false off later =
     other-rows h e.1 (queue_of q (changed name (with_mail m) queues)) (queue_of q queues) (bytes_eq q e.0) (same_text q name)
-      (λ is. ap (λ n. same_text n name) (same_text-true q e.0 is) ∙ same_text-sym e.0 name ∙ off)
-      (λ isn't. later refl)
+    (λ is. ap (λ n. same_text n name) (same_text-true q e.0 is) ∙ same_text-sym e.0 name ∙ off)
+    (λ isn't. later refl)
 
 changed-safe : (m : Mail → Mail) (h : List Row → List Row) → ((x : Mail) → (m x).rows ≡ h x.rows) → (name : List ℕ) (queues : List Named) → IsSafe name h queues → (q : List ℕ) → rows_in q (changed name (with_mail m) queues) ≡ cond (same_text q name) (h (rows_in q queues)) (rows_in q queues)
 changed-safe m h same name [] safe q = elim (same_text q name) as (λ b. [] ≡ cond b (h []) []) [ true ↦ sym (safe-none name h safe) | false ↦ refl ]

@@ -1,5 +1,5 @@
 -- What the calls of a virtual host need, as the entry suits the journal.
-use Rattle.std.proofs.Common.{◌≡◌, ℕ, ◌+◌, ◌<◌, ◌≤◌, ◌^◌, List, [], ◌∷◌, length, Bool, true, false, cond, Option, Some, None, is_some, arith, refl, sym, ap, subst, ◌∙◌}
+use Rattle.std.proofs.Common.{◌≡◌, ℕ, zero, suc, ◌+◌, ◌<◌, ◌≤◌, ◌^◌, List, [], ◌∷◌, ◌++◌, take, drop, map, slice_index_or, length, Bool, true, false, cond, Option, Some, None, is_some, arith, refl, sym, ap, subst, ◌∙◌}
 use Rattle.std.specs.Prelude.{All}
 use Rattle.std.proofs.lemmas.List.Elements.{All-nil}
 use Rattle.fed_journal.specs.declared.place.Place.{Place}
@@ -39,3 +39,9 @@ first-number n first (name ∷ names) is some = is
 pub above-at : (host : Host) (x : Publication) → IsRecordable host (Published x) → (length x.queues ≡ 0 → ⊥) → AreAbove x.first host.vhost.queues
 above-at host x r some =
     subst (λ n. AreAbove n host.vhost.queues) (sym (first-number (copy_count r.journal + 1) x.first x.queues r.suits.0 some)) r.view.counted.above
+
+-- what is left of a list while its front is changed
+pub left-at : {X : Type 0} (f : X → X) (i : ℕ) (xs : List X) (d : X) → slice_index_or (map f (take i xs) ++ drop i xs) i d ≡ slice_index_or xs i d
+left-at f zero xs d = refl
+left-at f (suc i) [] d = refl
+left-at f (suc i) (x ∷ xs) d = left-at f i xs d

@@ -35,10 +35,11 @@ stands J p v q h on = sym (some-map (queue_of q v.queues)) ∙ ap is_some (h.opt
 
 routed-at : (J : List Entry) (p : Place) (x : Publication) (v : VhostState) → IsConfigured J p v → x.queues ≡ routes J x.place x.message → x.place ≡ p → AreDistinct x.queues × All (λ name. is_some (queue_of name v.queues) ≡ true) x.queues
 routed-at J p x v h same here =
-    let names : x.queues ≡ routes J p x.message = same ∙ ap (λ r. routes J r x.message) here in
-    (subst AreDistinct (sym names) (routes-distinct J p x.message),
-     subst (All (λ name. is_some (queue_of name v.queues) ≡ true)) (sym names)
-       (All-weaker (λ q. is_some (queue_options J p q) ≡ true) (λ q. is_some (queue_of q v.queues) ≡ true) (λ q. stands J p v q h) (routes J p x.message) (routes-stand J p v x.message h)))
+    let names : x.queues ≡ routes J p x.message = same ∙ ap (λ r. routes J r x.message) here in (
+      subst AreDistinct (sym names) (routes-distinct J p x.message),
+      subst (All (λ name. is_some (queue_of name v.queues) ≡ true)) (sym names)
+          (All-weaker (λ q. is_some (queue_options J p q) ≡ true) (λ q. is_some (queue_of q v.queues) ≡ true) (λ q. stands J p v q h) (routes J p x.message) (routes-stand J p v x.message h)),
+    )
 
 is-routed : (J : List Entry) (p : Place) (e : Entry) (v : VhostState) → IsConfigured J p v → Suits J e → IsRouted p v e
 is-routed J p (Published x) v h suits = λ here. routed-at J p x v h suits.1 (same_place-true x.place p here)

@@ -1,5 +1,5 @@
 -- The hosts of a run are views of its journal after one entry more.
-use Rattle.std.proofs.Common.{◌≡◌, ℕ, ◌+◌, ◌<◌, List, [], ◌∷◌, ◌++◌, Bool, true, false, cond, Option, Some, None, is_some, refl, sym, ap, subst, ◌∙◌, map, append_assoc, append-nil}
+use Rattle.std.proofs.Common.{◌≡◌, ℕ, zero, suc, ◌+◌, ◌<◌, List, [], ◌∷◌, ◌++◌, length, take, drop, slice_index_or, Bool, true, false, cond, Option, Some, None, is_some, arith, refl, sym, ap, subst, ◌∙◌, map, append_assoc, append-nil}
 use Rattle.std.specs.Prelude.{◌||◌, ◌&&◌, All, codes}
 use Rattle.std.specs.List.{list_any, list_all}
 use Rattle.std.proofs.lemmas.Bool.{true≢false, false≢true, and_parts, or_left, or_from}
@@ -7,12 +7,13 @@ use Rattle.std.proofs.lemmas.List.Elements.{All-nil, All-cons, All-head, All-tai
 use Rattle.fed_journal.specs.declared.place.Place.{Place}
 use Rattle.fed_journal.specs.declared.entry.Entry.{Entry}
 use Rattle.fed_journal.specs.declared.entry.Entry.TheVariants.{Begun}
+use Rattle.fed_journal.specs.Copies.{IsFitting}
 use Rattle.fed_journal.specs.Names.{same_text}
 use Rattle.fed_journal.specs.Configuration.{begins, is_broker}
 use Rattle.mini_broker.specs.State.{VhostState}
 use Rattle.mini_broker.specs.Vhosts.{bare}
 use Rattle.broker_view.specs.declared.host.Host.{Host}
-use Rattle.broker_view.specs.Hosts.{place_of, recorded_at, with_host, AreViews, IsRecordable, IsNext, LeadsOn}
+use Rattle.broker_view.specs.Hosts.{place_of, recorded_at, with_host, AreViews, IsRecordable, IsNext, LeadsOn, Leads}
 use Rattle.broker_view.specs.Recorded.{recorded}
 use Rattle.broker_view.specs.Suits.{Suits, EachSuits, is_begun}
 use Rattle.broker_view.specs.View.{AreDistinct, IsView}
@@ -50,8 +51,8 @@ mapped-views : (n : ℕ) (J : List Entry) (e : Entry) (hosts : List Host) → Su
 mapped-views n J e [] suits all = All-nil (λ (h : Host). IsView (J ++ e ∷ []) (place_of h.broker) h.vhost)
 mapped-views n J e (h ∷ hosts) suits all =
     All-cons (λ (x : Host). IsView (J ++ e ∷ []) (place_of x.broker) x.vhost) (recorded_at n e h) (map (recorded_at n e) hosts)
-      (view-step n J (place_of h.broker) e h.vhost (All-head (λ (x : Host). IsView J (place_of x.broker) x.vhost) h hosts all) suits)
-      (mapped-views n J e hosts suits (All-tail (λ (x : Host). IsView J (place_of x.broker) x.vhost) h hosts all))
+    (view-step n J (place_of h.broker) e h.vhost (All-head (λ (x : Host). IsView J (place_of x.broker) x.vhost) h hosts all) suits)
+    (mapped-views n J e hosts suits (All-tail (λ (x : Host). IsView J (place_of x.broker) x.vhost) h hosts all))
 
 pub views-step : (n : ℕ) (J : List Entry) (e : Entry) (hosts : List Host) → is_begun e ≡ false → AreViews J hosts → Suits J e → AreViews (J ++ e ∷ []) (map (recorded_at n e) hosts)
 views-step n J e hosts other views suits = record {
@@ -66,7 +67,7 @@ views-step n J e hosts other views suits = record {
 begun-views : (J : List Entry) (b cluster kept : List ℕ) (hosts : List Host) → Suits J (Begun b cluster kept) → All (λ (h : Host). IsView J (place_of h.broker) h.vhost) hosts → All (λ (h : Host). IsView (J ++ Begun b cluster kept ∷ []) (place_of h.broker) h.vhost) hosts
 begun-views J b cluster kept hosts suits all =
     All-weaker (λ (h : Host). IsView J (place_of h.broker) h.vhost) (λ (h : Host). IsView (J ++ Begun b cluster kept ∷ []) (place_of h.broker) h.vhost)
-      (λ h view. view-step 0 J (place_of h.broker) (Begun b cluster kept) h.vhost view suits) hosts all
+    (λ h view. view-step 0 J (place_of h.broker) (Begun b cluster kept) h.vhost view suits) hosts all
 
 begun-broker : (J : List Entry) (b cluster kept n : List ℕ) → is_broker (J ++ Begun b cluster kept ∷ []) n ≡ (is_broker J n || same_text b n)
 begun-broker J b cluster kept n = any-append (begins n) J (Begun b cluster kept ∷ []) ∙ ap (λ x. is_broker J n || x) (sym (or-false (same_text b n)))
@@ -90,9 +91,10 @@ names-any b (h ∷ hosts) = ap (λ x. x || list_any (same_text b) (map (λ (y : 
 
 distinct-push : (ns : List (List ℕ)) (b : List ℕ) → list_any (same_text b) ns ≡ false → AreDistinct ns → AreDistinct (ns ++ b ∷ [])
 distinct-push [] b none distinct = (refl, tt)
-distinct-push (n ∷ ns) b none distinct =
-    (any-append (same_text n) ns (b ∷ []) ∙ or_from (list_any (same_text n) ns) (same_text n b || false) distinct.0 (ap (λ x. x || false) (same_text-sym n b) ∙ sym (or-false (same_text b n)) ∙ (or-parts (same_text b n) (list_any (same_text b) ns) none).0),
-     distinct-push ns b (or-parts (same_text b n) (list_any (same_text b) ns) none).1 distinct.1)
+distinct-push (n ∷ ns) b none distinct = (
+  any-append (same_text n) ns (b ∷ []) ∙ or_from (list_any (same_text n) ns) (same_text n b || false) distinct.0 (ap (λ x. x || false) (same_text-sym n b) ∙ sym (or-false (same_text b n)) ∙ (or-parts (same_text b n) (list_any (same_text b) ns) none).0),
+  distinct-push ns b (or-parts (same_text b n) (list_any (same_text b) ns) none).1 distinct.1,
+)
   where
     or-parts : (x y : Bool) → (x || y) ≡ false → (x ≡ false) × (y ≡ false)
     or-parts true y h = absurd (true≢false h)
@@ -110,7 +112,7 @@ new-views J b cluster kept hosts none views suits = record {
   brokers = λ n. any-append (λ (h : Host). same_text h.broker n) hosts (record { broker = b; vhost = bare } ∷ []) ∙ ap (λ x. list_any (λ (h : Host). same_text h.broker n) hosts || x) (sym (or-false (same_text b n))) ∙ ap (λ x. x || same_text b n) (views.brokers n) ∙ sym (begun-broker J b cluster kept n);
   distinct = subst AreDistinct (pushed-names b hosts) (distinct-push (map (λ (h : Host). h.broker) hosts) b (names-any b hosts ∙ none) views.distinct);
   views = All-push (λ (h : Host). IsView (J ++ Begun b cluster kept ∷ []) (place_of h.broker) h.vhost) hosts (record { broker = b; vhost = bare }) (begun-views J b cluster kept hosts suits views.views)
-    (view-step 0 J (place_of b) (Begun b cluster kept) bare (bare-view J (place_of b) suits) suits);
+      (view-step 0 J (place_of b) (Begun b cluster kept) bare (bare-view J (place_of b) suits) suits);
 }
 
 begun-by : (J : List Entry) (b cluster kept : List ℕ) (hosts : List Host) (c : Bool) → list_any (λ (h : Host). same_text h.broker b) hosts ≡ c → AreViews J hosts → Suits J (Begun b cluster kept) → AreViews (J ++ Begun b cluster kept ∷ []) (cond c hosts (hosts ++ record { broker = b; vhost = bare } ∷ []))
@@ -126,7 +128,40 @@ recorded-step n e hosts now other is = λ J views suits. subst (AreViews (J ++ e
 pub all-recordable : (hosts : List Host) (e : Entry) → IsNext hosts e → All (λ (h : Host). IsRecordable h e) hosts
 all-recordable hosts e next =
     All-weaker (λ (h : Host). IsView next.journal (place_of h.broker) h.vhost) (λ (h : Host). IsRecordable h e)
-      (λ h view. record { journal = next.journal; view = view; suits = next.suits }) hosts next.views.views
+    (λ h view. record { journal = next.journal; view = view; suits = next.suits }) hosts next.views.views
 
 pub no-views : AreViews [] []
 no-views = record { brokers = λ b. refl; distinct = tt; views = All-nil (λ (h : Host). IsView [] (place_of h.broker) h.vhost) }
+
+pub not-begun : (e : Entry) → ((b cluster kept : List ℕ) → e ≡ Begun b cluster kept → ⊥) → is_begun e ≡ false
+not-begun (Begun b cluster kept) h = absurd (h b cluster kept refl)
+not-begun e h = refl
+
+-- ---- entries in their order
+
+record SplitAt (es : List Entry) (i : ℕ) (x : Entry) : Type 0 where
+  rest : drop i es ≡ x ∷ drop (i + 1) es
+  front : take (i + 1) es ≡ take i es ++ x ∷ []
+
+split-at : (es : List Entry) (i : ℕ) (x : Entry) → i < length es → x ≡ slice_index_or es i x → SplitAt es i x
+split-at [] i x h is = absurd (omega (arith, h))
+split-at (e ∷ es) zero x h is = record { rest = ap (λ y. y ∷ es) (sym is); front = ap (λ y. y ∷ []) (sym is) }
+split-at (e ∷ es) (suc i) x h is =
+    let s : SplitAt es i x = split-at es i x (omega (arith, h)) is in
+    let next : suc i + 1 ≡ suc (i + 1) = omega arith in
+    record {
+      rest = s.rest ∙ sym (ap (λ n. x ∷ drop n (e ∷ es)) next);
+      front = ap (λ n. take n (e ∷ es)) next ∙ ap (λ ys. e ∷ ys) s.front;
+    }
+
+pub leads-more : (J es : List Entry) (i : ℕ) (x : Entry) (hosts now : List Host) → Leads (J ++ take i es) (drop i es) hosts → i < length es → x ≡ slice_index_or es i x → LeadsOn hosts x now → Leads (J ++ take (i + 1) es) (drop (i + 1) es) now
+leads-more J es i x hosts now leads h is on =
+    let s : SplitAt es i x = split-at es i x h is in
+    let suits : EachSuits (J ++ take i es) (x ∷ drop (i + 1) es) = subst (EachSuits (J ++ take i es)) s.rest leads.suits in
+    let fits : All IsFitting (x ∷ drop (i + 1) es) = subst (All IsFitting) s.rest leads.fits in
+    let longer : (J ++ take i es) ++ x ∷ [] ≡ J ++ take (i + 1) es = append_assoc J (take i es) (x ∷ []) ∙ ap (λ ys. J ++ ys) (sym s.front) in
+    record {
+      views = subst (λ K. AreViews K now) longer (on (J ++ take i es) leads.views suits.0);
+      suits = subst (λ K. EachSuits K (drop (i + 1) es)) longer suits.1;
+      fits = All-tail IsFitting x (drop (i + 1) es) fits;
+    }

@@ -4,6 +4,7 @@ use Rattle.std.specs.List.{list_any}
 use Rattle.fed_journal.specs.declared.place.Place.{Place}
 use Rattle.fed_journal.specs.declared.entry.Publication.{Publication}
 use Rattle.fed_journal.specs.declared.entry.Entry.{Entry}
+use Rattle.fed_journal.specs.Copies.{IsFitting}
 use Rattle.fed_journal.specs.Names.{same_text}
 use Rattle.fed_journal.specs.Configuration.{is_broker}
 use Rattle.mini_broker.specs.Record.{with_entered}
@@ -49,3 +50,9 @@ pub record IsNext (hosts : List Host) (e : Entry) : Type 0 where
 -- from each journal that leads to the hosts, its entry leads on to those
 abbrev pub LeadsOn : List Host → Entry → List Host → Type 0
 LeadsOn hosts e now = (J : List Entry) → AreViews J hosts → Suits J e → AreViews (J ++ e ∷ []) now
+
+-- the journal leads to the hosts, and these entries suit it
+pub record Leads (J es : List Entry) (hosts : List Host) : Type 0 where
+  pub views : AreViews J hosts
+  pub suits : EachSuits J es
+  pub fits : All IsFitting es

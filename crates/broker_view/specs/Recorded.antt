@@ -1,5 +1,5 @@
 -- What an entry of the journal does to a virtual host.
-use Rattle.std.specs.Prelude.{ℕ, Bool, true, false, not, if◌then◌else◌}
+use Rattle.std.specs.Prelude.{ℕ, Bool, true, false, not, ◌&&◌, if◌then◌else◌}
 use Rattle.queue_core.specs.declared.rows.Holder.{Holder}
 use Rattle.fed_journal.specs.declared.place.Place.{Place}
 use Rattle.fed_journal.specs.declared.entry.Entry.{Entry}
@@ -50,10 +50,14 @@ is_making (Bound place binding) = true
 is_making (Unbound place binding) = true
 is_making _ = false
 
--- entries that are neither these nor of a client that consumes (AMQP 0-9-1, class basic)
+-- entries of clients that consume, or whose connection ended (AMQP 0-9-1, class basic)
+abbrev pub is_consuming : Entry → Bool
+is_consuming (Consumed place client queue tag no_ack prefetch) = true
+is_consuming (Cancelled place client tag) = true
+is_consuming (Delivered place client tag queue copy no_ack) = true
+is_consuming (Closed place connection) = true
+is_consuming _ = false
+
+-- the other entries
 abbrev pub is_moving : Entry → Bool
-is_moving (Consumed place client queue tag no_ack prefetch) = false
-is_moving (Cancelled place client tag) = false
-is_moving (Delivered place client tag queue copy no_ack) = false
-is_moving (Closed place connection) = false
-is_moving e = not (is_making e)
+is_moving e = not (is_making e) && not (is_consuming e)

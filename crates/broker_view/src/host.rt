@@ -4,7 +4,7 @@ ghost use Rattle.std.specs.Prelude.{◌≡◌, ◌+◌, ◌<◌, ◌^◌, OnOk, 
 ghost use Rattle.fed_journal.specs.declared.entry.Entry.TheVariants.{Published};
 ghost use Rattle.fed_journal.specs.Copies.{IsFitting};
 ghost use Rattle.fed_journal.specs.Names.{same_place};
-ghost use Rattle.broker_view.specs.Recorded.{session_holder, is_making, is_moving};
+ghost use Rattle.broker_view.specs.Recorded.{session_holder, is_making, is_consuming, is_moving};
 ghost use Rattle.broker_view.specs.Hosts.{place_of, recorded_at, entered_at, IsRecordable};
 
 use amqp_props::Text;
@@ -129,15 +129,14 @@ fn record_moved(host: &mut Host, link: u32, entry: &Entry) -> Result<(), AllocEr
     Ok(())
 }
 
-/// Does to the host what an entry of the journal records of its place.
+/// Does to the host what a client did there that consumes, or whose connection ended.
 ///
 /// # Errors
 ///
 /// For want of memory.
-pub fn record(host: &mut Host, link: u32, entry: &Entry) -> Result<(), AllocError>
-    requires recordable { IsRecordable host.old entry.now }
-    requires fits { IsFitting entry.now }
-    ensures { OnOk result (host.new ≡ recorded_at link entry.now host.old) }
+fn record_consumed(host: &mut Host, link: u32, entry: &Entry) -> Result<(), AllocError>
+    requires { IsRecordable host.old entry.now }
+    ensures { IsTrue (is_consuming entry.now) → OnOk result (host.new ≡ recorded_at link entry.now host.old) }
 {
     match entry {
         Entry::Consumed {
@@ -148,13 +147,8 @@ pub fn record(host: &mut Host, link: u32, entry: &Entry) -> Result<(), AllocErro
             no_ack,
             prefetch,
         } if is_at(host, place) => {
-            host.vhost.begin_consumer(
-                *client,
-                queue.as_str(),
-                tag.as_str(),
-                *no_ack,
-                *prefetch,
-            )?;
+            host.vhost
+                .begin_consumer(*client, queue.as_str(), tag.as_str(), *no_ack, *prefetch)?;
         }
         Entry::Cancelled { place, client, tag } if is_at(host, place) => {
             host.vhost.cancel(*client, tag.as_str());
@@ -173,6 +167,26 @@ pub fn record(host: &mut Host, link: u32, entry: &Entry) -> Result<(), AllocErro
         Entry::Closed { place, connection } if is_at(host, place) => {
             host.vhost.disconnect(*connection);
         }
+        _ => {}
+    }
+    Ok(())
+}
+
+/// Does to the host what an entry of the journal records of its place.
+///
+/// # Errors
+///
+/// For want of memory.
+pub fn record(host: &mut Host, link: u32, entry: &Entry) -> Result<(), AllocError>
+    requires recordable { IsRecordable host.old entry.now }
+    requires fits { IsFitting entry.now }
+    ensures { OnOk result (host.new ≡ recorded_at link entry.now host.old) }
+{
+    match entry {
+        Entry::Consumed { .. }
+        | Entry::Cancelled { .. }
+        | Entry::Delivered { .. }
+        | Entry::Closed { .. } => record_consumed(host, link, entry)?,
         Entry::MadeQueue { .. }
         | Entry::MadeExchange { .. }
         | Entry::GoneQueue { .. }

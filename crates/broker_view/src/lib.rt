@@ -1,11 +1,8 @@
-//! What brokers hold after a journal.
+//! What brokers hold after a journal: virtual hosts that follow its entries, and answer for them.
 #![tactic(auto)]
 
 pub mod brokers;
 pub mod host;
 pub mod run;
-mod laws;
-mod laws_configured;
-mod laws_consuming;
-mod laws_counted;
-mod laws_reached;
+#[cfg(test)]
+mod tests;

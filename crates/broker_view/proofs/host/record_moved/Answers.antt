@@ -12,7 +12,7 @@ returns-in-Requeued c = λ moving. recorded-as c.args.link c.args.entry.now _ c.
 
 pub returns-in-Settled : goal.returns-in-Settled
 returns-in-Settled c = λ moving. elim c.in-Settled.is [
-    | inl s ↦ recorded-as c.args.link c.args.entry.now (Settled s.0 s.1 c.in-Settled.copy) c.args.host.now c.settle.new.self s.2 c.settle.ensures
-    | inr (inl a) ↦ recorded-as c.args.link c.args.entry.now (Acked a.0 a.1 c.in-Settled.copy) c.args.host.now c.settle.new.self a.2 c.settle.ensures
-    | inr (inr r) ↦ recorded-as c.args.link c.args.entry.now (Rejected r.0 r.1 c.in-Settled.copy) c.args.host.now c.settle.new.self r.2 c.settle.ensures
-  ]
+  | inl s ↦ recorded-as c.args.link c.args.entry.now (Settled s.0 s.1 c.in-Settled.copy) c.args.host.now c.settle.new.self s.2 c.settle.ensures
+  | inr (inl a) ↦ recorded-as c.args.link c.args.entry.now (Acked a.0 a.1 c.in-Settled.copy) c.args.host.now c.settle.new.self a.2 c.settle.ensures
+  | inr (inr r) ↦ recorded-as c.args.link c.args.entry.now (Rejected r.0 r.1 c.in-Settled.copy) c.args.host.now c.settle.new.self r.2 c.settle.ensures
+]
