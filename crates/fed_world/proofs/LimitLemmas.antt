@@ -97,5 +97,5 @@ none-by J K false true c e f h = absurd (none-some Entries (sym h))
 none-by J K false false c e f h = (ltb-false MAX_LINKS (length (links_of (J ++ K))) e, ltb-false MAX_ENTRIES (length J + length K) f)
 
 -- no limit of links or entries is passed
-pub limit-none : (J K : List Entry) → limit_of J K ≡ None → (length (links_of (J ++ K)) ≤ MAX_LINKS) × (length J + length K ≤ MAX_ENTRIES)
-limit-none J K h = none-by J K (nat_lt MAX_LINKS (length (links_of (J ++ K)))) (nat_lt MAX_ENTRIES (length J + length K)) (nat_lt MAX_BYTES (byte_count J + byte_count K)) refl refl h
+pub limit-kept : (J K : List Entry) → limit_of J K ≡ None → (length (links_of (J ++ K)) ≤ MAX_LINKS) × (length J + length K ≤ MAX_ENTRIES)
+limit-kept J K h = none-by J K (nat_lt MAX_LINKS (length (links_of (J ++ K)))) (nat_lt MAX_ENTRIES (length J + length K)) (nat_lt MAX_BYTES (byte_count J + byte_count K)) refl refl h

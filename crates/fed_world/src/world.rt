@@ -88,9 +88,7 @@ fn consuming_row(alloc: Global, run: &Run<'_>, event: &Event) -> Result<Row, All
             tag,
             no_ack,
             prefetch,
-        } => consume_row(
-            alloc, run, place, *client, queue, tag, *no_ack, *prefetch,
-        ),
+        } => consume_row(alloc, run, place, *client, queue, tag, *no_ack, *prefetch),
         Event::Cancel { place, client, tag } => cancel_row(alloc, run, place, *client, tag),
         Event::Deliver { place, client, tag } => deliver_row(alloc, run, place, *client, tag),
         Event::Get {
@@ -125,12 +123,7 @@ fn consuming_row(alloc: Global, run: &Run<'_>, event: &Event) -> Result<Row, All
 }
 
 /// The row of an event: what it appends, or why it doesn't happen now.
-fn next(
-    alloc: Global,
-    run: &Run<'_>,
-    numbers: Numbers,
-    event: &Event,
-) -> Result<Row, AllocError>
+fn next(alloc: Global, run: &Run<'_>, numbers: Numbers, event: &Event) -> Result<Row, AllocError>
     requires sound { IsSound run.now }
     requires publication { numbers.publication ≡ publication_count run.now + 1 }
     requires copy { numbers.copy ≡ copy_count run.now + 1 }

@@ -33,13 +33,7 @@ fn stands_as(run: &Run<'_>, place: &Place, sort: Sort, name: &Text) -> bool
 }
 
 /// Why a client is refused an end that another connection has to itself, if it is.
-fn end_refusal(
-    run: &Run<'_>,
-    place: &Place,
-    client: u16,
-    sort: Sort,
-    name: &Text,
-) -> Option<Reason>
+fn end_refusal(run: &Run<'_>, place: &Place, client: u16, sort: Sort, name: &Text) -> Option<Reason>
     requires { is_place run.now place.now ≡ true }
     ensures { result ≡ end_refusal run.now place.now client sort name.now }
 {

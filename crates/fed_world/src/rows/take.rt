@@ -27,12 +27,7 @@ fn first_ready_at(run: &Run<'_>, place: &Option<Place>, queue: &Text) -> Option<
 }
 
 /// Whether the session holds as many copies as the link asks for.
-fn is_full(
-    alloc: Global,
-    run: &Run<'_>,
-    spec: &LinkSpec,
-    session: u32,
-) -> Result<bool, AllocError>
+fn is_full(alloc: Global, run: &Run<'_>, spec: &LinkSpec, session: u32) -> Result<bool, AllocError>
     ensures { IfOk result (λ full. full ≡ is_full run.now spec.now session) }
 {
     let held = flight_held(alloc, run.entries(), &spec.name, session)?;
