@@ -1,5 +1,6 @@
 pub mod Causes
 pub mod Described
+pub mod Ends
 pub mod Held
 pub mod Homes
 pub mod Inversions
@@ -8,11 +9,13 @@ pub mod LimitLemmas
 pub mod LinkNames
 pub mod Lists
 pub mod Moved
+pub mod OwnedQueues
 pub mod Queues
 pub mod Reached
 pub mod RowCaused
 pub mod RowFits
 pub mod RowHas
+pub mod RowSuits
 pub mod RunKept
 pub mod SizeLemmas
 pub mod SoundLemmas

@@ -1,8 +1,9 @@
 -- How many links there are, and which limit is passed.
-use Rattle.std.proofs.Common.{◌≡◌, ℕ, ◌+◌, ◌≤◌, ◌<◌, List, [], ◌∷◌, ◌++◌, length, Bool, true, false, cond, Some, None, arith, refl, sym, ap, ◌∙◌}
-use Rattle.std.specs.Prelude.{nat_lt, count_by, sum_by, flat_map}
+use Rattle.std.proofs.Common.{◌≡◌, ℕ, ◌+◌, ◌≤◌, ◌<◌, List, [], ◌∷◌, ◌++◌, length, Bool, true, false, cond, Option, Some, None, arith, refl, sym, ap, ◌∙◌}
+use Rattle.std.specs.Prelude.{nat_lt, count_by, sum_by, flat_map, if◌then◌else◌}
 use Rattle.std.specs.List.{list_any}
-use Rattle.std.proofs.lemmas.Bool.{true≢false, or_parts, lt-ltb, le-ltb}
+use Rattle.std.proofs.lemmas.Bool.{true≢false, or_parts, lt-ltb, le-ltb, ltb-false}
+use Rattle.std.proofs.lemmas.Option.{none-some}
 use Rattle.std.proofs.lemmas.List.Sums.{sum_by-append, sum_by-cons}
 use Rattle.std.proofs.lemmas.List.Concat.{length-flat_map}
 use Rattle.fed_journal.specs.declared.entry.Entry.{Entry}
@@ -89,3 +90,12 @@ limit-bytes J K h k m = rw (h, le-ltb MAX_ENTRIES (length J + length K) k, lt-lt
 
 pub limit-none : (J K : List Entry) → nat_lt MAX_LINKS (length (links_of (J ++ K))) ≡ false → length J + length K ≤ MAX_ENTRIES → byte_count J + byte_count K ≤ MAX_BYTES → limit_of J K ≡ None
 limit-none J K h k m = rw (h, le-ltb MAX_ENTRIES (length J + length K) k, le-ltb MAX_BYTES (byte_count J + byte_count K) m) refl
+
+none-by : (J K : List Entry) (a b c : Bool) → nat_lt MAX_LINKS (length (links_of (J ++ K))) ≡ a → nat_lt MAX_ENTRIES (length J + length K) ≡ b → (if a then Some Links else if b then Some Entries else if c then Some Bytes else None) ≡ None → (length (links_of (J ++ K)) ≤ MAX_LINKS) × (length J + length K ≤ MAX_ENTRIES)
+none-by J K true b c e f h = absurd (none-some Links (sym h))
+none-by J K false true c e f h = absurd (none-some Entries (sym h))
+none-by J K false false c e f h = (ltb-false MAX_LINKS (length (links_of (J ++ K))) e, ltb-false MAX_ENTRIES (length J + length K) f)
+
+-- no limit of links or entries is passed
+pub limit-kept : (J K : List Entry) → limit_of J K ≡ None → (length (links_of (J ++ K)) ≤ MAX_LINKS) × (length J + length K ≤ MAX_ENTRIES)
+limit-kept J K h = none-by J K (nat_lt MAX_LINKS (length (links_of (J ++ K)))) (nat_lt MAX_ENTRIES (length J + length K)) (nat_lt MAX_BYTES (byte_count J + byte_count K)) refl refl h

@@ -35,7 +35,7 @@ reached-moved J h = subst RemovesMoved (sym h.leads) (reached-kept J h).moved
 pub reached-held : (J : List Entry) → IsReached J → RemovesHeld J
 reached-held J h = subst RemovesHeld (sym h.leads) (reached-kept J h).held
 
-reached-caused : (J : List Entry) → IsReached J → EachCaused [] J
+pub reached-caused : (J : List Entry) → IsReached J → EachCaused [] J
 reached-caused J h = subst (EachCaused []) (sym h.leads) (last-caused (begin h.brokers) h.events (begin-caused [] h.brokers refl))
 
 next-leaves_stored : (J : List Entry) (event : Event) → IsReached J → LeavesStored J event (after J (next J event))

@@ -119,7 +119,7 @@ settle-cause J l s c spec d h =
 any-of : (f : Entry → Bool) (J : List Entry) (s : Split (λ e. f e ≡ true) J) → list_any f J ≡ true
 any-of f J s = subst (λ K. list_any f K ≡ true) (sym s.whole) (any-middle f s.at s.before s.rest s.holds)
 
-take-cause : (J : List Entry) (source : Option Place) (q : List ℕ) (c : ℕ) → first_ready_at J source q ≡ Some c → (list_any (enters c) J ≡ true) × (is_ready J c ≡ true)
+pub take-cause : (J : List Entry) (source : Option Place) (q : List ℕ) (c : ℕ) → first_ready_at J source q ≡ Some c → (list_any (enters c) J ≡ true) × (is_ready J c ≡ true)
 unfolding first_ready entered
 take-cause J None q c h = absurd (none-some c h)
 take-cause J (Some p) q c h =
@@ -253,7 +253,7 @@ unbind_row-caused J p client b =
     at_place-has (EachCaused J) J p _ (unless_refused-has (EachCaused J) (bind_refusal J p client b) _ (either-has (EachCaused J) (is_bound J p b) _ (Ok []) (tt, tt) tt))
 
 -- a queue that isn't there
-not_there : (o : Option QueueOptions) → not (is_some o) ≡ true → o ≡ None
+pub not_there : (o : Option QueueOptions) → not (is_some o) ≡ true → o ≡ None
 not_there None h = refl
 not_there (Some o) h = absurd (false≢true h)
 
@@ -294,12 +294,12 @@ missing-parts false true h = absurd (false≢true h)
 missing-parts false false h = (refl, refl)
 
 -- the target's queue isn't there before the source's is made
-target-missing : (J : List Entry) (spec : LinkSpec) (source target : Place) → is_target_missing J spec source target ≡ true → queue_options J target spec.target_queue ≡ None
+pub target-missing : (J : List Entry) (spec : LinkSpec) (source target : Place) → is_target_missing J spec source target ≡ true → queue_options J target spec.target_queue ≡ None
 target-missing J spec source target h =
     not_there (queue_options J target spec.target_queue) (missing-parts (stands J target spec.target_queue) (same_place target source && same_text spec.target_queue spec.source_queue) h).0
 
 -- nor afterwards
-target-fresh : (J : List Entry) (spec : LinkSpec) (source target : Place) → is_target_missing J spec source target ≡ true → queue_options (J ++ MadeQueue source spec.source_queue lasting None ∷ []) target spec.target_queue ≡ None
+pub target-fresh : (J : List Entry) (spec : LinkSpec) (source target : Place) → is_target_missing J spec source target ≡ true → queue_options (J ++ MadeQueue source spec.source_queue lasting None ∷ []) target spec.target_queue ≡ None
 target-fresh J spec source target h =
     let other : (same_place target source && same_text spec.target_queue spec.source_queue) ≡ false = (missing-parts (stands J target spec.target_queue) (same_place target source && same_text spec.target_queue spec.source_queue) h).1 in
     made-others J source target spec.source_queue spec.target_queue (is_queue-other source target spec.source_queue spec.target_queue other) (target-missing J spec source target h)
@@ -349,7 +349,7 @@ none-held true true h = refl
 none-held true false h = absurd (none-some why.NotHeld (sym h))
 none-held false b h = absurd (none-some why.NoPlace (sym h))
 
-answer-held : (J : List Entry) (p : Place) (client c : ℕ) → answer_refusal J p client c ≡ None → is_held_by J p (channel_of client) c ≡ true
+pub answer-held : (J : List Entry) (p : Place) (client c : ℕ) → answer_refusal J p client c ≡ None → is_held_by J p (channel_of client) c ≡ true
 answer-held J p client c h = none-held (is_place J p) (is_held_by J p (channel_of client) c) h
 
 ack_row-caused : (J : List Entry) (p : Place) (client c : ℕ) → RowHas (EachCaused J) (ack_row J p client c)

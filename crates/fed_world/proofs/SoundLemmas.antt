@@ -66,6 +66,11 @@ pub sized-each : (J es : List Entry) → EachFits J es → All IsSized es
 sized-each J [] fits = All-nil IsSized
 sized-each J (e ∷ es) fits = All-cons IsSized e es (IsSized-fits J e fits.0) (sized-each (J ++ e ∷ []) es fits.1)
 
+-- and its numbers fit
+pub fitting-each : (J es : List Entry) → EachFits J es → All IsFitting es
+fitting-each J [] fits = All-nil IsFitting
+fitting-each J (e ∷ es) fits = All-cons IsFitting e es (IsFitting-fits J e fits.0) (fitting-each (J ++ e ∷ []) es fits.1)
+
 pub IsSound-empty : IsSound []
 unfolding session links_of
 IsSound-empty = record { within = lit≤ tt; numbered = All-nil IsFitting; sized = All-nil IsSized; links = lit≤ tt; sessions = λ l. omega arith }

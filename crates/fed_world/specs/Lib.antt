@@ -6,8 +6,10 @@ pub mod Confirm
 pub mod Consume
 pub mod Declare
 pub mod Deliver
+pub mod Ends
 pub mod Fits
 pub mod Flush
+pub mod Followed
 pub mod Get
 pub mod Kept
 pub mod Limits

@@ -1,15 +1,19 @@
 //! What an event appends to the journal, or why it doesn't happen now.
-ghost use Rattle.std.specs.Prelude.{◌≡◌, [], ◌∷◌, Ok, Err, IfOk};
+ghost use Rattle.std.specs.Prelude.{◌≡◌, [], ◌∷◌, true, Ok, Err, IfOk, IfSome};
+ghost use Rattle.fed_journal.specs.Configuration.{is_place};
+ghost use Rattle.fed_journal.specs.Links.{link_of};
+ghost use Rattle.fed_world.specs.Ends.{HasEnds};
 ghost use Rattle.fed_world.specs.RowOf.{row_of};
 ghost use Rattle.fed_world.specs.Row.{channel_of, lock_refusal, queue_refusal};
 
 use crate::reason::Reason;
 use amqp_props::Text;
+use broker_view::run::Run;
 use fed_journal::entry::Entry;
+use fed_journal::link::LinkSpec;
 use fed_journal::place::{Client, Place};
 use fed_journal::text::is_reserved;
-use journal_scan::configuration::queue_options;
-use journal_scan::owners::is_locked;
+use journal_scan::links;
 use std::alloc::{AllocError, Global};
 
 /// The entries that an event appends, or the reason why it doesn't happen.
@@ -43,14 +47,15 @@ pub(crate) fn channel_of(client: u16) -> Client
 
 /// Why a client is refused a queue that another connection has to itself, if it is.
 pub(crate) fn lock_refusal(
-    journal: &[Entry],
+    run: &Run<'_>,
     place: &Place,
     client: u16,
     queue: &Text,
 ) -> Option<Reason>
-    ensures { result ≡ lock_refusal journal.now place.now client queue.now }
+    requires { is_place run.now place.now ≡ true }
+    ensures { result ≡ lock_refusal run.now place.now client queue.now }
 {
-    if is_locked(journal, place, queue, u32::from(client)) {
+    if run.is_locked(place, queue, u32::from(client)) {
         Some(Reason::Refused(405))
     } else {
         None
@@ -59,18 +64,32 @@ pub(crate) fn lock_refusal(
 
 /// Why a client is refused the use of the queue, if it is.
 pub(crate) fn queue_refusal(
-    journal: &[Entry],
+    run: &Run<'_>,
     place: &Place,
     client: u16,
     queue: &Text,
 ) -> Option<Reason>
-    ensures { result ≡ queue_refusal journal.now place.now client queue.now }
+    requires { is_place run.now place.now ≡ true }
+    ensures { result ≡ queue_refusal run.now place.now client queue.now }
 {
     if is_reserved(queue) {
         Some(Reason::Refused(403))
-    } else if queue_options(journal, place, queue).is_some() {
-        lock_refusal(journal, place, client, queue)
+    } else if run.queue_options(place, queue).is_some() {
+        lock_refusal(run, place, client, queue)
     } else {
         Some(Reason::Refused(404))
     }
+}
+
+/// The link of that name, whose ends are places of the run.
+pub(crate) fn link_of(
+    alloc: Global,
+    run: &Run<'_>,
+    link: &Text,
+) -> Result<Option<LinkSpec>, AllocError>
+    ensures spec { IfOk result (λ spec. spec ≡ link_of run.now link.now) }
+    ensures ends { IfOk result (λ spec. IfSome spec (HasEnds run.now)) }
+{
+    let spec = links::link_of(alloc, run.entries(), link)?;
+    Ok(spec)
 }

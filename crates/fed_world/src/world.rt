@@ -1,15 +1,18 @@
-//! The state of a run: its journal.
+//! The state of a run: its journal, and the brokers that follow it.
 ghost use Rattle.std.specs.Prelude.{◌≡◌, Some, None, IfErr, ◌+◌, ◌<◌, ◌≤◌, ◌++◌, ◌*◌, ◌^◌, ◌≢◌, Ok, Err, IfOk, OnOk, OnErr, All, IsTrue, length, vec_len};
-ghost use Rattle.fed_journal.specs.Copies.{IsFitting};
+ghost use Rattle.broker_view.specs.Hosts.{AreViews};
+ghost use Rattle.broker_view.specs.Suits.{EachSuits};
+ghost use Rattle.fed_journal.specs.Copies.{IsFitting, publication_count, copy_count};
 ghost use Rattle.fed_journal.specs.Events.{IsWritable};
 ghost use Rattle.fed_journal.specs.Sizes.{IsSized, entry_bytes, byte_count};
 ghost use Rattle.fed_journal.specs.declared.journal.TheConstants.{MAX_BYTES};
 ghost use Rattle.fed_world.specs.RowOf.{row_of};
 ghost use Rattle.fed_world.specs.Step.{next, is_consuming, after, outcome_of};
 ghost use Rattle.fed_world.specs.Limits.{limit_of, limit_passed};
-ghost use Rattle.fed_world.specs.Run.{begin, begun};
+ghost use Rattle.fed_world.specs.Run.{begin, begun, IsReached};
 ghost use Rattle.fed_world.specs.Sound.{IsSound};
-ghost use Rattle.fed_world.specs.Fits.{EachFits, RowFits};
+ghost use Rattle.fed_world.specs.Fits.{EachFits, RowFits, RowSuits};
+ghost use Rattle.fed_world.specs.Followed.{IsFollowed};
 ghost use Rattle.fed_world.specs.Kept.{LeavesStored, RemovesMoved, RemovesHeld};
 
 use crate::limits::passes_links;
@@ -34,18 +37,25 @@ use crate::rows::set_shovel::set_shovel_row;
 use crate::rows::settle::settle_row;
 use crate::rows::take::take_row;
 use amqp_props::Text;
+use broker_view::brokers::Brokers;
+use broker_view::run::Run;
 use fed_journal::entry::Entry;
 use fed_journal::event::Event;
-use fed_journal::journal::{Journal, JournalFault, MAX_ENTRIES};
+use fed_journal::journal::{Journal, JournalFault, MAX_ENTRIES, Numbers};
 use fed_journal::message::message_bytes;
 use std::alloc::{AllocError, Global};
 use std::marker::Model;
 
 /// A run so far, seen as the entries of its journal.
+///
+/// Where memory runs out while the brokers follow an event, the event isn't appended, and the brokers are given up:
+/// the journal stays as it was, and every later step answers `StepFault::Memory`.
 #[derive(Drop)]
 pub struct World {
     alloc: Global,
     journal: Journal,
+    /// The brokers as the journal leads to them; None once they were given up.
+    brokers: Option<Brokers>,
 }
 
 impl Model for World {
@@ -53,6 +63,7 @@ impl Model for World {
     ghost use Rattle.fed_journal.specs.declared.entry.Entry.{Entry};
     ghost use Rattle.fed_world.specs.Sound.{IsSound};
     ghost use Rattle.fed_world.specs.Run.{IsReached};
+    ghost use Rattle.fed_world.specs.Followed.{IsFollowed};
     ghost use Rattle.fed_journal.specs.contracts.entry.Entry as entry;
     ghost use Rattle.std.specs.Coded.{codes};
 
@@ -62,13 +73,12 @@ impl Model for World {
 
     ghost view = { λ w. w.journal.entries };
 
-    ghost invariant = { λ w. IsSound w.journal.entries × IsReached w.journal.entries };
+    ghost invariant = { λ w. IsSound w.journal.entries × IsReached w.journal.entries × IsFollowed w.brokers w.journal.entries };
 }
 
 /// The row of an event of a consuming client.
-fn consuming_row(alloc: Global, entries: &[Entry], event: &Event) -> Result<Row, AllocError>
-    requires { All IsFitting entries.now }
-    ensures { IsTrue (is_consuming event.now) → IfOk result (λ row. row_of row ≡ next entries.now event.now) }
+fn consuming_row(alloc: Global, run: &Run<'_>, event: &Event) -> Result<Row, AllocError>
+    ensures { IsTrue (is_consuming event.now) → IfOk result (λ row. row_of row ≡ next run.now event.now) }
 {
     match event {
         Event::Consume {
@@ -78,92 +88,90 @@ fn consuming_row(alloc: Global, entries: &[Entry], event: &Event) -> Result<Row,
             tag,
             no_ack,
             prefetch,
-        } => consume_row(
-            alloc, entries, place, *client, queue, tag, *no_ack, *prefetch,
-        ),
-        Event::Cancel { place, client, tag } => cancel_row(alloc, entries, place, *client, tag),
-        Event::Deliver { place, client, tag } => deliver_row(alloc, entries, place, *client, tag),
+        } => consume_row(alloc, run, place, *client, queue, tag, *no_ack, *prefetch),
+        Event::Cancel { place, client, tag } => cancel_row(alloc, run, place, *client, tag),
+        Event::Deliver { place, client, tag } => deliver_row(alloc, run, place, *client, tag),
         Event::Get {
             place,
             client,
             queue,
             no_ack,
-        } => get_row(alloc, entries, place, *client, queue, *no_ack),
+        } => get_row(alloc, run, place, *client, queue, *no_ack),
         Event::Ack {
             place,
             client,
             copy,
-        } => ack_row(alloc, entries, place, *client, *copy),
+        } => ack_row(alloc, run, place, *client, *copy),
         Event::Reject {
             place,
             client,
             copy,
-        } => reject_row(alloc, entries, place, *client, *copy),
+        } => reject_row(alloc, run, place, *client, *copy),
         Event::Requeue {
             place,
             client,
             copy,
-        } => requeue_row(alloc, entries, place, *client, *copy),
+        } => requeue_row(alloc, run, place, *client, *copy),
         Event::Purge {
             place,
             client,
             queue,
-        } => purge_row(alloc, entries, place, *client, queue),
-        Event::Close { place, client } => close_row(alloc, entries, place, *client),
+        } => purge_row(alloc, run, place, *client, queue),
+        Event::Close { place, client } => close_row(alloc, run, place, *client),
         _ => Ok(nothing(alloc)),
     }
 }
 
 /// The row of an event: what it appends, or why it doesn't happen now.
-pub fn next(alloc: Global, journal: &Journal, event: &Event) -> Result<Row, AllocError>
-    requires { IsSound journal.now.entries }
-    ensures { IfOk result (λ row. row_of row ≡ next journal.now.entries event.now) }
+fn next(alloc: Global, run: &Run<'_>, numbers: Numbers, event: &Event) -> Result<Row, AllocError>
+    requires sound { IsSound run.now }
+    requires publication { numbers.publication ≡ publication_count run.now + 1 }
+    requires copy { numbers.copy ≡ copy_count run.now + 1 }
+    ensures { IfOk result (λ row. row_of row ≡ next run.now event.now) }
 {
-    let entries = journal.entries();
-    let numbers = journal.numbers();
     match event {
         Event::DeclareQueue {
             place,
             client,
             queue,
             options,
-        } => declare_row(alloc, entries, place, *client, queue, *options),
+        } => declare_row(alloc, run, place, *client, queue, *options),
         Event::DeclareExchange {
             place,
             exchange,
             shape,
             ..
-        } => declare_exchange_row(alloc, entries, place, exchange, *shape),
+        } => declare_exchange_row(alloc, run, place, exchange, *shape),
         Event::Bind {
             place,
             client,
             binding,
-        } => bind_row(alloc, entries, place, *client, binding),
+        } => bind_row(alloc, run, place, *client, binding),
         Event::Unbind {
             place,
             client,
             binding,
-        } => unbind_row(alloc, entries, place, *client, binding),
+        } => unbind_row(alloc, run, place, *client, binding),
         Event::Publish {
             place,
             client,
             message,
-        } => publish_row(alloc, entries, place, *client, message, numbers),
-        Event::Flush { broker } => flush_row(alloc, entries, broker),
+        } => publish_row(alloc, run, place, *client, message, numbers),
+        Event::Flush { broker } => flush_row(alloc, run, broker),
         Event::SetShovel {
             place,
             name,
             shovel,
-        } => set_shovel_row(alloc, entries, place, name, shovel),
-        Event::Open { link } => open_row(alloc, entries, link),
-        Event::Take { link } => take_row(alloc, entries, link),
-        Event::Send { link } => send_row(alloc, entries, link),
-        Event::Accept { link } => accept_row(alloc, entries, link, numbers),
-        Event::Confirm { link } => confirm_row(alloc, entries, link),
-        Event::Note { link } => note_row(alloc, entries, link),
-        Event::Settle { link } => settle_row(alloc, entries, link),
+        } => set_shovel_row(alloc, run, place, name, shovel),
+        Event::Open { link } => open_row(alloc, run, link),
+        Event::Take { link } => take_row(alloc, run, link),
+        Event::Send { link } => send_row(alloc, run, link),
+        Event::Accept { link } => accept_row(alloc, run, link, numbers),
+        Event::Confirm { link } => confirm_row(alloc, run, link),
+        Event::Note { link } => note_row(alloc, run, link),
+        Event::Settle { link } => settle_row(alloc, run, link),
         Event::Show => Ok(nothing(alloc)),
-        _ => consuming_row(alloc, entries, event),
+        _ => consuming_row(alloc, run, event),
     }
 }
 
@@ -193,62 +201,109 @@ fn bytes_of_entry(entry: &Entry) -> usize
     }
 }
 
-/// Appends the entries, all or none.
-fn append(journal: &mut Journal, entries: Vec<Entry>, bytes: usize) -> Result<(), JournalFault>
+/// Appends entries for which there is room. Takes no memory.
+fn append(journal: &mut Journal, entries: Vec<Entry>)
     requires sized { All IsSized entries.items }
-    requires bytes { bytes ≡ byte_count entries.items }
-    ensures ok { OnOk result (journal.new.entries ≡ journal.old.entries ++ entries.items) }
-    ensures err { OnErr result (journal.new.entries ≡ journal.old.entries) }
-    ensures full { result ≡ Err JournalFault.Entries → MAX_ENTRIES < length journal.old.entries + length entries.items }
-    ensures over { result ≡ Err JournalFault.Bytes → MAX_BYTES < byte_count journal.old.entries + byte_count entries.items }
-    ensures first { result ≡ Err JournalFault.Bytes → length journal.old.entries + length entries.items ≤ MAX_ENTRIES }
-    ensures within { OnOk result (length journal.old.entries + length entries.items ≤ MAX_ENTRIES) }
-    ensures under { OnOk result (byte_count journal.old.entries + byte_count entries.items ≤ MAX_BYTES) }
+    requires room { length entries.items ≤ journal.old.room }
+    requires bytes { byte_count journal.old.entries + byte_count entries.items ≤ MAX_BYTES }
+    ensures { journal.new.entries ≡ journal.old.entries ++ entries.items }
 {
-    journal.reserve(entries.len(), bytes)?;
     for entry in entries {
         journal.push(entry);
     }
-    Ok(())
 }
 
-/// The row of an event, of which each entry fits.
-fn fitting_row(alloc: Global, journal: &Journal, event: &Event) -> Result<Row, AllocError>
+/// The row of an event, of which each entry fits and suits the journal.
+fn fitting_row(
+    alloc: Global,
+    journal: &Journal,
+    brokers: &Brokers,
+    event: &Event,
+) -> Result<Row, AllocError>
     requires sound { IsSound journal.now.entries }
+    requires reached { IsReached journal.now.entries }
+    requires views { AreViews journal.now.entries brokers.now.hosts.items }
     requires writable { IsWritable event.now }
     ensures row { IfOk result (λ row. row_of row ≡ next journal.now.entries event.now) }
     ensures fits { IfOk result (λ row. RowFits journal.now.entries (row_of row)) }
+    ensures suits { IfOk result (λ row. RowSuits journal.now.entries (row_of row)) }
 {
-    let _entries = journal.entries();
-    let row = next(alloc, journal, event)?;
+    let run = brokers.run(journal.entries());
+    let row = next(alloc, &run, journal.numbers(), event)?;
     Ok(row)
 }
 
-/// Appends entries that fit, and answers how many. Else the first limit that they would pass, or want of memory.
-fn extend(journal: &mut Journal, entries: Vec<Entry>) -> Result<usize, StepFault>
+/// Makes room for entries that fit. Else the first limit that they would pass, or want of memory.
+fn make_room(journal: &mut Journal, entries: &[Entry]) -> Result<(), StepFault>
     requires sound { IsSound journal.old.entries }
-    requires fits { EachFits journal.old.entries entries.items }
-    ensures ok { OnOk result (journal.new.entries ≡ journal.old.entries ++ entries.items) }
-    ensures count { IfOk result (λ count. count ≡ length entries.items) }
-    ensures sound { IsSound journal.new.entries }
-    ensures err { OnErr result (journal.new.entries ≡ journal.old.entries) }
-    ensures limit { IfErr result (λ fault. fault ≢ StepFault.Memory → limit_of journal.old.entries entries.items ≡ Some fault) }
-    ensures within { OnOk result (limit_of journal.old.entries entries.items ≡ None) }
+    requires fits { EachFits journal.old.entries entries.now }
+    ensures same { journal.new.entries ≡ journal.old.entries }
+    ensures room { OnOk result (length entries.now ≤ journal.new.room) }
+    ensures limit { IfErr result (λ fault. fault ≢ StepFault.Memory → limit_of journal.old.entries entries.now ≡ Some fault) }
+    ensures within { OnOk result (limit_of journal.old.entries entries.now ≡ None) }
 {
-    if passes_links(journal.entries(), entries.as_slice()) {
+    if passes_links(journal.entries(), entries) {
         return Err(StepFault::Links);
     }
-    let count = entries.len();
-    if count > MAX_ENTRIES {
+    if entries.len() > MAX_ENTRIES {
         return Err(StepFault::Entries);
     }
-    let bytes = bytes_of(entries.as_slice());
-    match append(journal, entries, bytes) {
-        Ok(()) => Ok(count),
+    match journal.reserve(entries.len(), bytes_of(entries)) {
+        Ok(()) => Ok(()),
         Err(JournalFault::Entries) => Err(StepFault::Entries),
         Err(JournalFault::Bytes) => Err(StepFault::Bytes),
         Err(JournalFault::Memory) => Err(StepFault::Memory),
     }
+}
+
+/// Lets the brokers do what the entries record. Where memory is wanting they are given up.
+fn follow(
+    alloc: Global,
+    brokers: &mut Option<Brokers>,
+    before: &[Entry],
+    entries: &[Entry],
+) -> Result<(), AllocError>
+    requires followed { IsFollowed brokers.old before.now }
+    requires suits { EachSuits before.now entries.now }
+    requires fits { All IsFitting entries.now }
+    ensures ok { OnOk result (IsFollowed brokers.new (before.now ++ entries.now)) }
+    ensures err { OnErr result (brokers.new ≡ None) }
+{
+    let Some(mut following) = brokers.take() else {
+        return Err(AllocError);
+    };
+    following.record(alloc, before, entries)?;
+    *brokers = Some(following);
+    Ok(())
+}
+
+/// Appends entries that fit and suit the journal, and answers how many. Else the first limit that they would pass,
+/// or want of memory.
+fn extend(
+    alloc: Global,
+    journal: &mut Journal,
+    brokers: &mut Option<Brokers>,
+    entries: Vec<Entry>,
+) -> Result<usize, StepFault>
+    requires sound { IsSound journal.old.entries }
+    requires followed { IsFollowed brokers.old journal.old.entries }
+    requires fits { EachFits journal.old.entries entries.items }
+    requires suits { EachSuits journal.old.entries entries.items }
+    ensures ok { OnOk result (journal.new.entries ≡ journal.old.entries ++ entries.items) }
+    ensures count { IfOk result (λ count. count ≡ length entries.items) }
+    ensures sound { IsSound journal.new.entries }
+    ensures followed { IsFollowed brokers.new journal.new.entries }
+    ensures err { OnErr result (journal.new.entries ≡ journal.old.entries) }
+    ensures limit { IfErr result (λ fault. fault ≢ StepFault.Memory → limit_of journal.old.entries entries.items ≡ Some fault) }
+    ensures within { OnOk result (limit_of journal.old.entries entries.items ≡ None) }
+{
+    make_room(journal, entries.as_slice())?;
+    if follow(alloc, brokers, journal.entries(), entries.as_slice()).is_err() {
+        return Err(StepFault::Memory);
+    }
+    let count = entries.len();
+    append(journal, entries);
+    Ok(count)
 }
 
 /// The entry of a bare broker.
@@ -281,8 +336,13 @@ impl World {
     {
         let entries = begin_entries(alloc, brokers)?;
         let mut journal = Journal::new(alloc);
-        match extend(&mut journal, entries) {
-            Ok(_) => Ok(World { alloc, journal }),
+        let mut brokers = Some(Brokers::new(alloc));
+        match extend(alloc, &mut journal, &mut brokers, entries) {
+            Ok(_) => Ok(World {
+                alloc,
+                journal,
+                brokers,
+            }),
             Err(_) => Err(AllocError),
         }
     }
@@ -302,13 +362,18 @@ impl World {
         ensures moved { RemovesMoved self.new }
         ensures held { RemovesHeld self.new }
     {
-        match fitting_row(self.alloc, &self.journal, event) {
+        let Some(brokers) = &self.brokers else {
+            return Err(StepFault::Memory);
+        };
+        match fitting_row(self.alloc, &self.journal, brokers, event) {
             Err(_) => Err(StepFault::Memory),
             Ok(Err(reason)) => Ok(Outcome::NotNow(reason)),
-            Ok(Ok(entries)) => match extend(&mut self.journal, entries) {
-                Ok(count) => Ok(Outcome::Done(count)),
-                Err(fault) => Err(fault),
-            },
+            Ok(Ok(entries)) => {
+                match extend(self.alloc, &mut self.journal, &mut self.brokers, entries) {
+                    Ok(count) => Ok(Outcome::Done(count)),
+                    Err(fault) => Err(fault),
+                }
+            }
         }
     }
 

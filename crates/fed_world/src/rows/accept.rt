@@ -4,19 +4,20 @@ ghost use Rattle.fed_journal.specs.declared.journal.TheConstants.{MAX_ENTRIES};
 ghost use Rattle.std.specs.Option.{option_copied};
 ghost use Rattle.fed_journal.specs.Copies.{publication_count, copy_count};
 ghost use Rattle.fed_journal.specs.Outgoing.{outgoing};
+ghost use Rattle.fed_world.specs.Ends.{IsEnd};
 ghost use Rattle.fed_world.specs.RowOf.{row_of};
 ghost use Rattle.fed_world.specs.Accept.{accept_row, accept_first, accepted};
 
 use crate::reason::Reason;
-use crate::row::{Row, one};
+use crate::row::{Row, link_of, one};
 use crate::rows::publish::published;
 use amqp_props::{Message, Text};
+use broker_view::run::Run;
 use fed_journal::entry::{Entry, Publication, Publisher};
 use fed_journal::journal::Numbers;
 use fed_journal::link::LinkSpec;
 use journal_scan::copies::publication_of;
 use journal_scan::flight::flight_sent;
-use journal_scan::links::link_of;
 use journal_scan::phases::{is_open, session};
 use std::alloc::{AllocError, Global};
 
@@ -39,16 +40,17 @@ fn outgoing(alloc: Global, spec: &LinkSpec, message: &Message) -> Result<Message
 /// What the link publishes at the target for a copy of that publication.
 fn accepted(
     alloc: Global,
-    journal: &[Entry],
+    run: &Run<'_>,
     spec: &LinkSpec,
     copy: u64,
     publication: Option<&Publication>,
     next: Numbers,
 ) -> Result<Row, AllocError>
-    requires publication { next.publication ≡ publication_count journal.now + 1 }
-    requires copy { next.copy ≡ copy_count journal.now + 1 }
-    requires within { length journal.now ≤ MAX_ENTRIES }
-    ensures { IfOk result (λ row. row_of row ≡ accepted journal.now spec.now copy spec.now.target (option_copied publication.entry)) }
+    requires publication { next.publication ≡ publication_count run.now + 1 }
+    requires copy { next.copy ≡ copy_count run.now + 1 }
+    requires within { length run.now ≤ MAX_ENTRIES }
+    requires target { IsEnd run.now spec.now.target }
+    ensures { IfOk result (λ row. row_of row ≡ accepted run.now spec.now copy spec.now.target (option_copied publication.entry)) }
 {
     let Some(target) = &spec.target else {
         return Ok(Err(Reason::Empty));
@@ -59,39 +61,39 @@ fn accepted(
     let message = outgoing(alloc, spec, &publication.message)?;
     let by = Publisher::Link {
         link: spec.name.clone()?,
-        session: session(journal, &spec.name),
+        session: session(run.entries(), &spec.name),
         copy,
     };
-    one(alloc, published(alloc, journal, target, by, message, next)?)
+    one(alloc, published(alloc, run, target, by, message, next)?)
 }
 
 /// The row of `accept`.
 #[tactic(auto, unfolding(crate::specs::Accept::accept_row))]
 pub fn accept_row(
     alloc: Global,
-    journal: &[Entry],
+    run: &Run<'_>,
     link: &Text,
     next: Numbers,
 ) -> Result<Row, AllocError>
-    requires publication { next.publication ≡ publication_count journal.now + 1 }
-    requires copy { next.copy ≡ copy_count journal.now + 1 }
-    requires within { length journal.now ≤ MAX_ENTRIES }
-    ensures { IfOk result (λ row. row_of row ≡ accept_row journal.now link.now) }
+    requires publication { next.publication ≡ publication_count run.now + 1 }
+    requires copy { next.copy ≡ copy_count run.now + 1 }
+    requires within { length run.now ≤ MAX_ENTRIES }
+    ensures { IfOk result (λ row. row_of row ≡ accept_row run.now link.now) }
 {
-    let Some(spec) = link_of(alloc, journal, link)? else {
+    let Some(spec) = link_of(alloc, run, link)? else {
         return Ok(Err(Reason::NoLink));
     };
-    if !is_open(journal, link) {
+    if !is_open(run.entries(), link) {
         return Ok(Err(Reason::NotOpen));
     }
-    let session = session(journal, link);
-    match flight_sent(alloc, journal, link, session)?.first() {
+    let session = session(run.entries(), link);
+    match flight_sent(alloc, run.entries(), link, session)?.first() {
         Some(copy) => accepted(
             alloc,
-            journal,
+            run,
             &spec,
             *copy,
-            publication_of(journal, *copy),
+            publication_of(run.entries(), *copy),
             next,
         ),
         None => Ok(Err(Reason::Empty)),

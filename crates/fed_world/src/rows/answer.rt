@@ -5,19 +5,18 @@ ghost use Rattle.fed_world.specs.Answer.{answer_refusal, ack_row, reject_row, re
 
 use crate::reason::Reason;
 use crate::row::{Row, channel_of, one};
+use broker_view::run::Run;
 use fed_journal::entry::Entry;
 use fed_journal::place::Place;
-use journal_scan::configuration::is_place;
-use journal_scan::holds::is_held_by;
 use std::alloc::{AllocError, Global};
 
 /// Why the client's answer for the copy doesn't happen, if it doesn't.
-fn answer_refusal(journal: &[Entry], place: &Place, client: u16, copy: u64) -> Option<Reason>
-    ensures { result ≡ answer_refusal journal.now place.now client copy }
+fn answer_refusal(run: &Run<'_>, place: &Place, client: u16, copy: u64) -> Option<Reason>
+    ensures { result ≡ answer_refusal run.now place.now client copy }
 {
-    if !is_place(journal, place) {
+    if !run.is_place(place) {
         Some(Reason::NoPlace)
-    } else if is_held_by(journal, place, channel_of(client), copy) {
+    } else if run.is_held_by(place, channel_of(client), copy) {
         None
     } else {
         Some(Reason::NotHeld)
@@ -28,14 +27,14 @@ fn answer_refusal(journal: &[Entry], place: &Place, client: u16, copy: u64) -> O
 #[tactic(auto, unfolding(crate::specs::Answer::ack_row))]
 pub fn ack_row(
     alloc: Global,
-    journal: &[Entry],
+    run: &Run<'_>,
     place: &Place,
     client: u16,
     copy: u64,
 ) -> Result<Row, AllocError>
-    ensures { IfOk result (λ row. row_of row ≡ ack_row journal.now place.now client copy) }
+    ensures { IfOk result (λ row. row_of row ≡ ack_row run.now place.now client copy) }
 {
-    if let Some(reason) = answer_refusal(journal, place, client, copy) {
+    if let Some(reason) = answer_refusal(run, place, client, copy) {
         return Ok(Err(reason));
     }
     let place = place.clone()?;
@@ -54,14 +53,14 @@ pub fn ack_row(
 #[tactic(auto, unfolding(crate::specs::Answer::reject_row))]
 pub fn reject_row(
     alloc: Global,
-    journal: &[Entry],
+    run: &Run<'_>,
     place: &Place,
     client: u16,
     copy: u64,
 ) -> Result<Row, AllocError>
-    ensures { IfOk result (λ row. row_of row ≡ reject_row journal.now place.now client copy) }
+    ensures { IfOk result (λ row. row_of row ≡ reject_row run.now place.now client copy) }
 {
-    if let Some(reason) = answer_refusal(journal, place, client, copy) {
+    if let Some(reason) = answer_refusal(run, place, client, copy) {
         return Ok(Err(reason));
     }
     let place = place.clone()?;
@@ -80,14 +79,14 @@ pub fn reject_row(
 #[tactic(auto, unfolding(crate::specs::Answer::requeue_row))]
 pub fn requeue_row(
     alloc: Global,
-    journal: &[Entry],
+    run: &Run<'_>,
     place: &Place,
     client: u16,
     copy: u64,
 ) -> Result<Row, AllocError>
-    ensures { IfOk result (λ row. row_of row ≡ requeue_row journal.now place.now client copy) }
+    ensures { IfOk result (λ row. row_of row ≡ requeue_row run.now place.now client copy) }
 {
-    if let Some(reason) = answer_refusal(journal, place, client, copy) {
+    if let Some(reason) = answer_refusal(run, place, client, copy) {
         return Ok(Err(reason));
     }
     let place = place.clone()?;

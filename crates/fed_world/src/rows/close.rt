@@ -7,10 +7,9 @@ ghost use Rattle.fed_world.specs.Close.{close_row};
 use crate::reason::Reason;
 use crate::row::Row;
 use amqp_props::Text;
+use broker_view::run::Run;
 use fed_journal::entry::Entry;
 use fed_journal::place::Place;
-use journal_scan::configuration::is_place;
-use journal_scan::owners::queues_owned;
 use std::alloc::{AllocError, Global};
 
 /// Appends that these queues are gone.
@@ -29,17 +28,17 @@ fn push_gone(place: &Place, queues: &[Text], entries: &mut Vec<Entry>) -> Result
 #[tactic(auto, unfolding(crate::specs::Close::close_row))]
 pub fn close_row(
     alloc: Global,
-    journal: &[Entry],
+    run: &Run<'_>,
     place: &Place,
     client: u16,
 ) -> Result<Row, AllocError>
-    ensures { IfOk result (λ row. row_of row ≡ close_row journal.now place.now client) }
+    ensures { IfOk result (λ row. row_of row ≡ close_row run.now place.now client) }
 {
-    if !is_place(journal, place) {
+    if !run.is_place(place) {
         return Ok(Err(Reason::NoPlace));
     }
     let connection = u32::from(client);
-    let queues = queues_owned(alloc, journal, place, connection)?;
+    let queues = run.queues_owned(alloc, place, connection)?;
     let mut entries = Vec::new(alloc);
     entries.push(Entry::Closed {
         place: place.clone()?,

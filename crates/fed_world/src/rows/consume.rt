@@ -1,34 +1,30 @@
 //! A client begins and ends to consume from a queue.
-ghost use Rattle.std.specs.Prelude.{◌≡◌, IfOk};
+ghost use Rattle.std.specs.Prelude.{◌≡◌, true, IfOk};
+ghost use Rattle.fed_journal.specs.Configuration.{is_place};
 ghost use Rattle.fed_world.specs.RowOf.{row_of};
 ghost use Rattle.fed_world.specs.Consume.{consumes, consume_row, cancel_row};
 
 use crate::reason::Reason;
 use crate::row::{Row, channel_of, nothing, one, queue_refusal};
 use amqp_props::Text;
+use broker_view::run::Run;
 use fed_journal::entry::Entry;
 use fed_journal::place::Place;
-use journal_scan::configuration::is_place;
-use journal_scan::consumers::{ConsumerName, consumer};
 use std::alloc::{AllocError, Global};
 
 /// Whether the tag is in use by the client.
-fn consumes(journal: &[Entry], place: &Place, client: u16, tag: &Text) -> bool
-    ensures { result ≡ consumes journal.now place.now client tag.now }
+fn consumes(run: &Run<'_>, place: &Place, client: u16, tag: &Text) -> bool
+    requires { is_place run.now place.now ≡ true }
+    ensures { result ≡ consumes run.now place.now client tag.now }
 {
-    let name = ConsumerName {
-        place,
-        client: channel_of(client),
-        tag,
-    };
-    consumer(journal, name).is_some()
+    run.consumer(place, channel_of(client), tag).is_some()
 }
 
 /// The row of `consume`.
 #[tactic(auto, unfolding(crate::specs::Consume::consume_row))]
 pub fn consume_row(
     alloc: Global,
-    journal: &[Entry],
+    run: &Run<'_>,
     place: &Place,
     client: u16,
     queue: &Text,
@@ -36,15 +32,15 @@ pub fn consume_row(
     no_ack: bool,
     prefetch: u16,
 ) -> Result<Row, AllocError>
-    ensures { IfOk result (λ row. row_of row ≡ consume_row journal.now place.now client queue.now tag.now no_ack prefetch) }
+    ensures { IfOk result (λ row. row_of row ≡ consume_row run.now place.now client queue.now tag.now no_ack prefetch) }
 {
-    if !is_place(journal, place) {
+    if !run.is_place(place) {
         return Ok(Err(Reason::NoPlace));
     }
-    if let Some(reason) = queue_refusal(journal, place, client, queue) {
+    if let Some(reason) = queue_refusal(run, place, client, queue) {
         return Ok(Err(reason));
     }
-    if consumes(journal, place, client, tag) {
+    if consumes(run, place, client, tag) {
         return Ok(Err(Reason::Refused(530)));
     }
     let place = place.clone()?;
@@ -67,17 +63,17 @@ pub fn consume_row(
 #[tactic(auto, unfolding(crate::specs::Consume::cancel_row))]
 pub fn cancel_row(
     alloc: Global,
-    journal: &[Entry],
+    run: &Run<'_>,
     place: &Place,
     client: u16,
     tag: &Text,
 ) -> Result<Row, AllocError>
-    ensures { IfOk result (λ row. row_of row ≡ cancel_row journal.now place.now client tag.now) }
+    ensures { IfOk result (λ row. row_of row ≡ cancel_row run.now place.now client tag.now) }
 {
-    if !is_place(journal, place) {
+    if !run.is_place(place) {
         return Ok(Err(Reason::NoPlace));
     }
-    if !consumes(journal, place, client, tag) {
+    if !consumes(run, place, client, tag) {
         return Ok(nothing(alloc));
     }
     let place = place.clone()?;

@@ -1,15 +1,16 @@
 //! A client declares a queue or an exchange.
-ghost use Rattle.std.specs.Prelude.{◌≡◌, IfOk};
+ghost use Rattle.std.specs.Prelude.{◌≡◌, true, IfOk};
+ghost use Rattle.fed_journal.specs.Configuration.{is_place};
 ghost use Rattle.fed_world.specs.RowOf.{row_of};
 ghost use Rattle.fed_world.specs.Declare.{declare_row, owner_by, declared_queue, same_options, lasting, stands, is_broker_name, is_refused, same_kind, same_shape, is_exchange_refused, declared_exchange, declare_exchange_row};
 
 use crate::reason::Reason;
 use crate::row::{Row, lock_refusal, nothing, one};
 use amqp_props::{ExchangeKind, QueueOptions, Text};
+use broker_view::run::Run;
 use fed_journal::entry::Entry;
 use fed_journal::place::{ExchangeShape, Place};
 use fed_journal::text::{begins_with, is_reserved};
-use journal_scan::configuration::{exchange_shape, is_place, queue_options};
 use std::alloc::{AllocError, Global};
 
 /// The options of a durable queue that is shared and stays.
@@ -20,10 +21,11 @@ pub(crate) const LASTING: QueueOptions = QueueOptions {
 };
 
 /// Whether the queue stands.
-pub(crate) fn stands(journal: &[Entry], place: &Place, queue: &Text) -> bool
-    ensures { result ≡ stands journal.now place.now queue.now }
+pub(crate) fn stands(run: &Run<'_>, place: &Place, queue: &Text) -> bool
+    requires { is_place run.now place.now ≡ true }
+    ensures { result ≡ stands run.now place.now queue.now }
 {
-    queue_options(journal, place, queue).is_some()
+    run.queue_options(place, queue).is_some()
 }
 
 /// Whether the name is one of the broker's own, other than a generated one.
@@ -34,12 +36,13 @@ fn is_broker_name(queue: &Text) -> bool
 }
 
 /// Whether the broker refuses a client to declare a queue of that name.
-fn is_refused(journal: &[Entry], place: &Place, queue: &Text) -> bool
-    ensures { result ≡ is_refused journal.now place.now queue.now }
+fn is_refused(run: &Run<'_>, place: &Place, queue: &Text) -> bool
+    requires { is_place run.now place.now ≡ true }
+    ensures { result ≡ is_refused run.now place.now queue.now }
 {
     queue.as_str().is_empty()
         || is_reserved(queue)
-        || (is_broker_name(queue) && !stands(journal, place, queue))
+        || (is_broker_name(queue) && !stands(run, place, queue))
 }
 
 /// The row of a queue's declaration, by what it was declared with before.
@@ -96,21 +99,21 @@ fn same_options(one: QueueOptions, other: QueueOptions) -> bool
 #[tactic(auto, unfolding(crate::specs::Declare::declare_row))]
 pub fn declare_row(
     alloc: Global,
-    journal: &[Entry],
+    run: &Run<'_>,
     place: &Place,
     client: u16,
     queue: &Text,
     options: QueueOptions,
 ) -> Result<Row, AllocError>
-    ensures { IfOk result (λ row. row_of row ≡ declare_row journal.now place.now client queue.now options) }
+    ensures { IfOk result (λ row. row_of row ≡ declare_row run.now place.now client queue.now options) }
 {
-    if !is_place(journal, place) {
+    if !run.is_place(place) {
         return Ok(Err(Reason::NoPlace));
     }
-    if is_refused(journal, place, queue) {
+    if is_refused(run, place, queue) {
         return Ok(Err(Reason::Refused(403)));
     }
-    if let Some(reason) = lock_refusal(journal, place, client, queue) {
+    if let Some(reason) = lock_refusal(run, place, client, queue) {
         return Ok(Err(reason));
     }
     declared_queue(
@@ -119,7 +122,7 @@ pub fn declare_row(
         client,
         queue,
         options,
-        queue_options(journal, place, queue),
+        run.queue_options(place, queue),
     )
 }
 
@@ -146,12 +149,13 @@ fn same_shape(one: ExchangeShape, other: ExchangeShape) -> bool
 }
 
 /// Whether the broker refuses a client to declare an exchange of that name.
-fn is_exchange_refused(journal: &[Entry], place: &Place, exchange: &Text) -> bool
-    ensures { result ≡ is_exchange_refused journal.now place.now exchange.now }
+fn is_exchange_refused(run: &Run<'_>, place: &Place, exchange: &Text) -> bool
+    requires { is_place run.now place.now ≡ true }
+    ensures { result ≡ is_exchange_refused run.now place.now exchange.now }
 {
     exchange.as_str().is_empty()
         || is_reserved(exchange)
-        || (begins_with(exchange, b"amq.") && exchange_shape(journal, place, exchange).is_none())
+        || (begins_with(exchange, b"amq.") && run.exchange_shape(place, exchange).is_none())
 }
 
 /// The row of an exchange's declaration, by what it was declared as before.
@@ -186,17 +190,17 @@ fn declared_exchange(
 #[tactic(auto, unfolding(crate::specs::Declare::declare_exchange_row))]
 pub fn declare_exchange_row(
     alloc: Global,
-    journal: &[Entry],
+    run: &Run<'_>,
     place: &Place,
     exchange: &Text,
     shape: ExchangeShape,
 ) -> Result<Row, AllocError>
-    ensures { IfOk result (λ row. row_of row ≡ declare_exchange_row journal.now place.now exchange.now shape) }
+    ensures { IfOk result (λ row. row_of row ≡ declare_exchange_row run.now place.now exchange.now shape) }
 {
-    if !is_place(journal, place) {
+    if !run.is_place(place) {
         return Ok(Err(Reason::NoPlace));
     }
-    if is_exchange_refused(journal, place, exchange) {
+    if is_exchange_refused(run, place, exchange) {
         return Ok(Err(Reason::Refused(403)));
     }
     declared_exchange(
@@ -204,6 +208,6 @@ pub fn declare_exchange_row(
         place,
         exchange,
         shape,
-        exchange_shape(journal, place, exchange),
+        run.exchange_shape(place, exchange),
     )
 }

@@ -1,57 +1,44 @@
 //! A queue hands a copy to a consumer.
-ghost use Rattle.std.specs.Prelude.{◌≡◌, Some, All, IfOk};
-ghost use Rattle.fed_journal.specs.Copies.{IsFitting};
-ghost use Rattle.journal_scan.specs.View.{consumer_from};
+ghost use Rattle.std.specs.Prelude.{◌≡◌, ◌&&◌, nat_le, nat_lt, true, Some, IfOk};
+ghost use Rattle.fed_journal.specs.Configuration.{is_place};
+ghost use Rattle.fed_journal.specs.Consumers.{held_count};
+ghost use Rattle.broker_view.specs.Asked.{asked_by};
 ghost use Rattle.fed_world.specs.RowOf.{row_of};
-ghost use Rattle.fed_world.specs.Deliver.{is_busy, deliver_to, deliver_row};
+ghost use Rattle.fed_world.specs.Row.{channel_of};
+ghost use Rattle.fed_world.specs.Deliver.{deliver_to, deliver_row};
 
 use crate::reason::Reason;
 use crate::row::{Row, channel_of, one};
 use amqp_props::Text;
+use broker_view::run::{Run, Subscription};
 use fed_journal::entry::Entry;
 use fed_journal::place::Place;
-use journal_scan::configuration::is_place;
-use journal_scan::consumers::{ConsumerName, Subscription, consumer, held_count};
-use journal_scan::holds::first_ready;
 use std::alloc::{AllocError, Global};
 
 /// Whether the consumer holds as many unacknowledged copies as it asked for.
-fn is_busy(
-    alloc: Global,
-    journal: &[Entry],
-    place: &Place,
-    client: u16,
-    tag: &Text,
-    consumer: Subscription<'_>,
-) -> Result<bool, AllocError>
-    requires { All IsFitting journal.now }
-    ensures { IfOk result (λ busy. busy ≡ is_busy journal.now place.now client tag.now (consumer_from consumer.entry)) }
+fn is_busy(consumer: Subscription<'_>) -> bool
+    ensures { result ≡ (nat_lt 0 consumer.entry.prefetch && nat_le consumer.entry.prefetch consumer.entry.held) }
 {
-    let name = ConsumerName {
-        place,
-        client: channel_of(client),
-        tag,
-    };
-    let held = held_count(alloc, journal, name, consumer.queue)?;
-    Ok(0 < consumer.prefetch && consumer.prefetch as usize <= held)
+    0 < consumer.prefetch && u64::from(consumer.prefetch) <= consumer.held
 }
 
 /// What happens where the client has this consumer.
 fn deliver_to(
     alloc: Global,
-    journal: &[Entry],
+    run: &Run<'_>,
     place: &Place,
     client: u16,
     tag: &Text,
     consumer: Subscription<'_>,
 ) -> Result<Row, AllocError>
-    requires { All IsFitting journal.now }
-    ensures { IfOk result (λ row. row_of row ≡ deliver_to journal.now place.now client tag.now (Some (consumer_from consumer.entry))) }
+    requires place { is_place run.now place.now ≡ true }
+    requires held { consumer.held ≡ held_count run.now place.now (channel_of client) tag.now consumer.queue.now }
+    ensures { IfOk result (λ row. row_of row ≡ deliver_to run.now place.now client tag.now (Some (asked_by consumer.entry))) }
 {
-    if is_busy(alloc, journal, place, client, tag, consumer)? {
+    if is_busy(consumer) {
         return Ok(Err(Reason::Busy));
     }
-    match first_ready(journal, place, consumer.queue) {
+    match run.first_ready(place, consumer.queue) {
         Some(copy) => {
             let place = place.clone()?;
             let tag = tag.clone()?;
@@ -76,24 +63,18 @@ fn deliver_to(
 #[tactic(auto, unfolding(crate::specs::Deliver::deliver_row))]
 pub fn deliver_row(
     alloc: Global,
-    journal: &[Entry],
+    run: &Run<'_>,
     place: &Place,
     client: u16,
     tag: &Text,
 ) -> Result<Row, AllocError>
-    requires { All IsFitting journal.now }
-    ensures { IfOk result (λ row. row_of row ≡ deliver_row journal.now place.now client tag.now) }
+    ensures { IfOk result (λ row. row_of row ≡ deliver_row run.now place.now client tag.now) }
 {
-    if !is_place(journal, place) {
+    if !run.is_place(place) {
         return Ok(Err(Reason::NoPlace));
     }
-    let name = ConsumerName {
-        place,
-        client: channel_of(client),
-        tag,
-    };
-    match consumer(journal, name) {
-        Some(consumer) => deliver_to(alloc, journal, place, client, tag, consumer),
+    match run.consumer(place, channel_of(client), tag) {
+        Some(consumer) => deliver_to(alloc, run, place, client, tag, consumer),
         None => Ok(Err(Reason::NoConsumer)),
     }
 }

@@ -6,16 +6,16 @@ ghost use Rattle.fed_world.specs.Flush.{flush_row};
 use crate::reason::Reason;
 use crate::row::{Row, one};
 use amqp_props::Text;
+use broker_view::run::Run;
 use fed_journal::entry::Entry;
-use journal_scan::configuration::is_broker;
 use std::alloc::{AllocError, Global};
 
 /// The row of `flush`.
 #[tactic(auto, unfolding(crate::specs::Flush::flush_row))]
-pub fn flush_row(alloc: Global, journal: &[Entry], broker: &Text) -> Result<Row, AllocError>
-    ensures { IfOk result (λ row. row_of row ≡ flush_row journal.now broker.now) }
+pub fn flush_row(alloc: Global, run: &Run<'_>, broker: &Text) -> Result<Row, AllocError>
+    ensures { IfOk result (λ row. row_of row ≡ flush_row run.now broker.now) }
 {
-    if !is_broker(journal, broker) {
+    if !run.is_broker(broker) {
         return Ok(Err(Reason::NoPlace));
     }
     let broker = broker.clone()?;

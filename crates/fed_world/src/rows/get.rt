@@ -1,38 +1,35 @@
 //! A client asks for a copy.
-ghost use Rattle.std.specs.Prelude.{◌≡◌, All, IfOk};
-ghost use Rattle.fed_journal.specs.Copies.{IsFitting};
+ghost use Rattle.std.specs.Prelude.{◌≡◌, IfOk};
 ghost use Rattle.fed_world.specs.RowOf.{row_of};
 ghost use Rattle.fed_world.specs.Get.{get_row};
 
 use crate::reason::Reason;
 use crate::row::{Row, channel_of, one, queue_refusal};
 use amqp_props::Text;
+use broker_view::run::Run;
 use fed_journal::entry::Entry;
 use fed_journal::place::Place;
-use journal_scan::configuration::is_place;
-use journal_scan::holds::first_ready;
 use std::alloc::{AllocError, Global};
 
 /// The row of `get`.
 #[tactic(auto, unfolding(crate::specs::Get::get_row))]
 pub fn get_row(
     alloc: Global,
-    journal: &[Entry],
+    run: &Run<'_>,
     place: &Place,
     client: u16,
     queue: &Text,
     no_ack: bool,
 ) -> Result<Row, AllocError>
-    requires { All IsFitting journal.now }
-    ensures { IfOk result (λ row. row_of row ≡ get_row journal.now place.now client queue.now no_ack) }
+    ensures { IfOk result (λ row. row_of row ≡ get_row run.now place.now client queue.now no_ack) }
 {
-    if !is_place(journal, place) {
+    if !run.is_place(place) {
         return Ok(Err(Reason::NoPlace));
     }
-    if let Some(reason) = queue_refusal(journal, place, client, queue) {
+    if let Some(reason) = queue_refusal(run, place, client, queue) {
         return Ok(Err(reason));
     }
-    match first_ready(journal, place, queue) {
+    match run.first_ready(place, queue) {
         Some(copy) => {
             let place = place.clone()?;
             let queue = queue.clone()?;

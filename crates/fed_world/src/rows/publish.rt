@@ -1,5 +1,6 @@
 //! A message is published.
-ghost use Rattle.std.specs.Prelude.{◌≡◌, ◌+◌, ◌≤◌, IfOk, List, length};
+ghost use Rattle.std.specs.Prelude.{◌≡◌, ◌+◌, ◌≤◌, true, IfOk, List, length};
+ghost use Rattle.fed_journal.specs.Configuration.{is_place};
 ghost use Rattle.fed_journal.specs.Copies.{publication_count, copy_count};
 ghost use Rattle.fed_journal.specs.declared.entry.Entry.{Entry};
 ghost use Rattle.fed_journal.specs.declared.journal.TheConstants.{MAX_ENTRIES};
@@ -9,12 +10,11 @@ ghost use Rattle.fed_world.specs.Publish.{publish_row, publish_refusal, shape_re
 use crate::reason::Reason;
 use crate::row::{Row, channel_of, one};
 use amqp_props::{Message, Text};
+use broker_view::run::Run;
 use fed_journal::entry::{Entry, Publication, Publisher};
 use fed_journal::journal::Numbers;
 use fed_journal::place::{ExchangeShape, Place};
 use fed_journal::text::{Names, is_reserved};
-use journal_scan::configuration::{exchange_shape, is_place};
-use journal_scan::routing::routes;
 use std::alloc::{AllocError, Global};
 
 /// The number of the publication's first copy, 0 if it has none.
@@ -31,18 +31,19 @@ fn first_copy(queues: &Names, next: Numbers) -> u64
 /// The entry of a message that is published.
 pub(crate) fn published(
     alloc: Global,
-    journal: &[Entry],
+    run: &Run<'_>,
     place: &Place,
     by: Publisher,
     message: Message,
     next: Numbers,
 ) -> Result<Entry, AllocError>
-    requires publication { next.publication ≡ publication_count journal.now + 1 }
-    requires copy { next.copy ≡ copy_count journal.now + 1 }
-    requires within { length journal.now ≤ MAX_ENTRIES }
-    ensures { IfOk result (λ entry. entry ≡ published journal.now place.now by message) }
+    requires publication { next.publication ≡ publication_count run.now + 1 }
+    requires copy { next.copy ≡ copy_count run.now + 1 }
+    requires within { length run.now ≤ MAX_ENTRIES }
+    requires place { is_place run.now place.now ≡ true }
+    ensures { IfOk result (λ entry. entry ≡ published run.now place.now by message) }
 {
-    let queues = routes(alloc, journal, place, &message)?;
+    let queues = run.routes(alloc, place, &message)?;
     let place = place.clone()?;
     let first = first_copy(&queues, next);
     Ok(Entry::Published(Publication {
@@ -73,15 +74,16 @@ fn shape_refusal(shape: Option<ExchangeShape>) -> Option<Reason>
 }
 
 /// Why a client can't publish to the exchange, if it can't.
-fn publish_refusal(journal: &[Entry], place: &Place, exchange: &Text) -> Option<Reason>
-    ensures { result ≡ publish_refusal journal.now place.now exchange.now }
+fn publish_refusal(run: &Run<'_>, place: &Place, exchange: &Text) -> Option<Reason>
+    requires { is_place run.now place.now ≡ true }
+    ensures { result ≡ publish_refusal run.now place.now exchange.now }
 {
     if is_reserved(exchange) {
         Some(Reason::Refused(403))
     } else if exchange.as_str().is_empty() {
         None
     } else {
-        shape_refusal(exchange_shape(journal, place, exchange))
+        shape_refusal(run.exchange_shape(place, exchange))
     }
 }
 
@@ -89,24 +91,24 @@ fn publish_refusal(journal: &[Entry], place: &Place, exchange: &Text) -> Option<
 #[tactic(auto, unfolding(crate::specs::Publish::publish_row))]
 pub fn publish_row(
     alloc: Global,
-    journal: &[Entry],
+    run: &Run<'_>,
     place: &Place,
     client: u16,
     message: &Message,
     next: Numbers,
 ) -> Result<Row, AllocError>
-    requires publication { next.publication ≡ publication_count journal.now + 1 }
-    requires copy { next.copy ≡ copy_count journal.now + 1 }
-    requires within { length journal.now ≤ MAX_ENTRIES }
-    ensures { IfOk result (λ row. row_of row ≡ publish_row journal.now place.now client message.now) }
+    requires publication { next.publication ≡ publication_count run.now + 1 }
+    requires copy { next.copy ≡ copy_count run.now + 1 }
+    requires within { length run.now ≤ MAX_ENTRIES }
+    ensures { IfOk result (λ row. row_of row ≡ publish_row run.now place.now client message.now) }
 {
-    if !is_place(journal, place) {
+    if !run.is_place(place) {
         return Ok(Err(Reason::NoPlace));
     }
-    if let Some(reason) = publish_refusal(journal, place, &message.exchange) {
+    if let Some(reason) = publish_refusal(run, place, &message.exchange) {
         return Ok(Err(reason));
     }
     let message = message.clone()?;
     let by = Publisher::Client(channel_of(client));
-    one(alloc, published(alloc, journal, place, by, message, next)?)
+    one(alloc, published(alloc, run, place, by, message, next)?)
 }

@@ -6,26 +6,26 @@ ghost use Rattle.fed_world.specs.Purge.{purge_row};
 use crate::reason::Reason;
 use crate::row::{Row, one, queue_refusal};
 use amqp_props::Text;
+use broker_view::run::Run;
 use fed_journal::entry::Entry;
 use fed_journal::place::Place;
-use journal_scan::configuration::is_place;
 use std::alloc::{AllocError, Global};
 
 /// The row of `purge`.
 #[tactic(auto, unfolding(crate::specs::Purge::purge_row))]
 pub fn purge_row(
     alloc: Global,
-    journal: &[Entry],
+    run: &Run<'_>,
     place: &Place,
     client: u16,
     queue: &Text,
 ) -> Result<Row, AllocError>
-    ensures { IfOk result (λ row. row_of row ≡ purge_row journal.now place.now client queue.now) }
+    ensures { IfOk result (λ row. row_of row ≡ purge_row run.now place.now client queue.now) }
 {
-    if !is_place(journal, place) {
+    if !run.is_place(place) {
         return Ok(Err(Reason::NoPlace));
     }
-    if let Some(reason) = queue_refusal(journal, place, client, queue) {
+    if let Some(reason) = queue_refusal(run, place, client, queue) {
         return Ok(Err(reason));
     }
     let place = place.clone()?;

@@ -6,10 +6,10 @@ ghost use Rattle.fed_world.specs.SetShovel.{set_shovel_row};
 use crate::reason::Reason;
 use crate::row::{Row, nothing, one};
 use amqp_props::Text;
+use broker_view::run::Run;
 use fed_journal::entry::Entry;
 use fed_journal::event::Shovel;
 use fed_journal::place::Place;
-use journal_scan::configuration::is_place;
 use journal_scan::links::is_shovel_set;
 use std::alloc::{AllocError, Global};
 
@@ -17,17 +17,17 @@ use std::alloc::{AllocError, Global};
 #[tactic(auto, unfolding(crate::specs::SetShovel::set_shovel_row))]
 pub fn set_shovel_row(
     alloc: Global,
-    journal: &[Entry],
+    run: &Run<'_>,
     place: &Place,
     name: &Text,
     shovel: &Shovel,
 ) -> Result<Row, AllocError>
-    ensures { IfOk result (λ row. row_of row ≡ set_shovel_row journal.now place.now name.now shovel.now) }
+    ensures { IfOk result (λ row. row_of row ≡ set_shovel_row run.now place.now name.now shovel.now) }
 {
-    if !is_place(journal, place) {
+    if !run.is_place(place) {
         return Ok(Err(Reason::NoPlace));
     }
-    if is_shovel_set(journal, place, name) {
+    if is_shovel_set(run.entries(), place, name) {
         return Ok(nothing(alloc));
     }
     let place = place.clone()?;

@@ -6,6 +6,7 @@ ghost use Rattle.fed_world.specs.Settle.{settle_row};
 use crate::reason::Reason;
 use crate::row::{Row, one};
 use amqp_props::Text;
+use broker_view::run::Run;
 use fed_journal::entry::Entry;
 use journal_scan::flight::flight_noted;
 use journal_scan::links::link_of;
@@ -14,17 +15,17 @@ use std::alloc::{AllocError, Global};
 
 /// The row of `settle`.
 #[tactic(auto, unfolding(crate::specs::Settle::settle_row))]
-pub fn settle_row(alloc: Global, journal: &[Entry], link: &Text) -> Result<Row, AllocError>
-    ensures { IfOk result (λ row. row_of row ≡ settle_row journal.now link.now) }
+pub fn settle_row(alloc: Global, run: &Run<'_>, link: &Text) -> Result<Row, AllocError>
+    ensures { IfOk result (λ row. row_of row ≡ settle_row run.now link.now) }
 {
-    if link_of(alloc, journal, link)?.is_none() {
+    if link_of(alloc, run.entries(), link)?.is_none() {
         return Ok(Err(Reason::NoLink));
     }
-    if !is_open(journal, link) {
+    if !is_open(run.entries(), link) {
         return Ok(Err(Reason::NotOpen));
     }
-    let session = session(journal, link);
-    match flight_noted(alloc, journal, link, session)?.first() {
+    let session = session(run.entries(), link);
+    match flight_noted(alloc, run.entries(), link, session)?.first() {
         Some(copy) => {
             let link = link.clone()?;
             one(

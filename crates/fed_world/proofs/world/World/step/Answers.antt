@@ -13,7 +13,14 @@ invariant_of-self c = (
     | in-Ok w ↦ extended-reached _ _ _ c.args.event.now c.self.invariant.1 (sym (ap row_of c.in-Ok-Ok.field-0-is) ∙ c.in-Ok-Ok.ensures.row) w.in-Ok.ensures.ok
     | in-Err-extend w ↦ subst IsReached (sym w.in-Err-extend.ensures.err) c.self.invariant.1
   ],
+  c.extend.ensures.followed,
 )
+
+pub returns-in_default-clause-moved : goal.returns-in_default-clause-moved
+returns-in_default-clause-moved c = subst RemovesMoved c.self.view_is (reached-moved _ c.self.invariant.1)
+
+pub returns-in_default-clause-held : goal.returns-in_default-clause-held
+returns-in_default-clause-held c = subst RemovesHeld c.self.view_is (reached-held _ c.self.invariant.1)
 
 pub returns-in-Err-clause-moved : goal.returns-in-Err-clause-moved
 returns-in-Err-clause-moved c = subst RemovesMoved c.self.view_is (reached-moved _ c.self.invariant.1)
