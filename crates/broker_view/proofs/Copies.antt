@@ -1,38 +1,24 @@
 -- Which copies are in the queues, and who holds them, in a journal that is one entry longer.
-use Rattle.std.proofs.Common.{◌≡◌, ℕ, zero, suc, ◌+◌, ◌-◌, ◌<◌, ◌≤◌, List, [], ◌∷◌, ◌++◌, length, Bool, true, false, cond, not, Option, Some, None, is_some, arith, refl, sym, ap, subst, ◌∙◌, map}
-use Rattle.std.specs.Prelude.{◌==◌, ◌&&◌, All, filter, filter_map, find, fold, position, slice_get, option_map}
-use Rattle.std.specs.List.{cons_option}
-use Rattle.std.proofs.lemmas.Bool.{true≢false, false≢true, and_parts, and_from, eqb-true, eq-eqb, ne_eqb, not_from_true}
-use Rattle.std.proofs.lemmas.Option.{none-some, same_Some}
-use Rattle.std.proofs.lemmas.List.Elements.{All-head, All-tail}
+use Rattle.std.proofs.Common.{◌≡◌, ℕ, List, [], ◌∷◌, ◌++◌, Bool, true, false, cond, not, Option, Some, None, refl, sym, ap, subst, ◌∙◌, map}
+use Rattle.std.specs.Prelude.{◌==◌, filter_map}
+use Rattle.std.proofs.lemmas.Bool.{true≢false, eqb-true, eq-eqb, ne_eqb}
 use Rattle.queue_core.specs.declared.rows.Holder.{Holder}
 use Rattle.queue_core.specs.declared.rows.Hold.{Hold}
 use Rattle.queue_core.specs.declared.rows.Hold.TheVariants as numbers
 use Rattle.queue_core.specs.declared.rows.Row.{Row}
 use Rattle.queue_core.specs.Rows as rows
 use Rattle.fed_journal.specs.declared.place.Place.{Place}
-use Rattle.fed_journal.specs.declared.place.Client.{Client}
 use Rattle.fed_journal.specs.declared.entry.Publication.{Publication}
 use Rattle.fed_journal.specs.declared.entry.Entry.{Entry}
-use Rattle.fed_journal.specs.declared.entry.Entry.TheVariants.{Begun, MadeQueue, MadeExchange, GoneQueue, Bound, Unbound, Published, Flushed, Took, Sent, Confirmed, Noted, Settled, Opened, Consumed, Cancelled, Delivered, Acked, Rejected, Requeued, Purged, Closed, ShovelSet}
-use Rattle.fed_journal.specs.Names.{same_text, same_place}
+use Rattle.fed_journal.specs.declared.entry.Entry.TheVariants.{Delivered}
 use Rattle.fed_journal.specs.Holders as holders
 use Rattle.fed_journal.specs.Holders.{is_connection}
-use Rattle.fed_journal.specs.Copies.{Standing, Unknown, Ready, Held, Left, is_left, is_waiting, is_home, is_name_of, publication_of, entered, entered_by, standing, standing_step, moved, handed, closed}
-use Rattle.fed_journal.specs.Holds.{is_ready, first_ready}
-use Rattle.mini_broker.specs.Mail as mail
-use Rattle.mini_broker.specs.Queues.{Named, queue_of, all_changed, changed, with_mail}
+use Rattle.fed_journal.specs.Copies.{Standing, Unknown, Ready, Held, Left, is_left, entered, entered_by, standing, moved}
 use Rattle.mini_broker.specs.State.{VhostState}
-use Rattle.mini_broker.specs.Record.{holder_as}
-use Rattle.mini_broker.specs.declared.mailbox.Sweep.TheVariants as sweeps
-use Rattle.broker_view.specs.View.{HasHome, HaveHomes, AreHeldAtHome, HasCopies, IsHolder, IsChannel, StandsAs, RowStands, is_there, rows_in}
-use Rattle.broker_view.specs.Recorded.{recorded, session_holder}
-use Rattle.broker_view.specs.Suits.{Suits}
-use Rattle.broker_view.proofs.Names.{same_text-true, same_text-refl, same_text-sym, same_place-true, same_place-refl, number-sym}
-use Rattle.broker_view.proofs.Publications.{publication-longer, standing-push, entered-same, home-longer}
-use Rattle.broker_view.proofs.Matching.{Matches, IsChange, Follows, stands-there, row-there, change-all, all-changed, some-kept, none-changed, none-kept}
-use Rattle.broker_view.proofs.QueueRows.{all-rows, changed-rows_none, gone-rows, made-rows}
-use Rattle.broker_view.proofs.FreedRows.{freed_row, freed_hold, freed-rows, freed-ready, freed-session, freed-channel}
+use Rattle.broker_view.specs.View.{HasHome, HaveHomes, AreHeldAtHome, HasCopies, IsHolder, StandsAs, RowStands, is_there, rows_in}
+use Rattle.broker_view.proofs.Names.{number-sym}
+use Rattle.broker_view.proofs.Publications.{standing-push, entered-same}
+use Rattle.broker_view.proofs.Matching.{Matches, Follows, stands-there, change-all, all-changed, some-kept, none-changed}
 
 -- ---- the frame of each step
 

@@ -1,7 +1,6 @@
 -- Each entry leaves the queues as the longer journal has them.
-use Rattle.std.proofs.Common.{◌≡◌, ℕ, ◌<◌, List, [], ◌∷◌, ◌++◌, Bool, true, false, cond, not, Option, Some, None, is_some, refl, sym, ap, subst, ◌∙◌, map}
+use Rattle.std.proofs.Common.{◌≡◌, ℕ, ◌<◌, List, [], ◌∷◌, ◌++◌, Bool, true, false, cond, None, is_some, refl, sym, ap, subst, ◌∙◌}
 use Rattle.std.specs.Prelude.{◌+◌, All, filter, option_map, position}
-use Rattle.std.specs.Str.{bytes_eq}
 use Rattle.queue_core.specs.declared.rows.Hold.TheVariants as numbers
 use Rattle.queue_core.specs.declared.rows.Row.{Row}
 use Rattle.queue_core.specs.Rows as rows
@@ -13,7 +12,6 @@ use Rattle.fed_journal.specs.declared.entry.Entry.TheVariants.{Begun, MadeQueue,
 use Rattle.fed_journal.specs.Names.{same_text, same_place}
 use Rattle.fed_journal.specs.Holders as holders
 use Rattle.fed_journal.specs.Copies.{Ready, Held, Left, copy_count, publication_of, entered_by}
-use Rattle.fed_journal.specs.Holds.{first_ready}
 use Rattle.fed_journal.specs.Routes.{bound, unbound}
 use Rattle.mini_broker.specs.declared.mailbox.Sweep.TheVariants as sweeps
 use Rattle.mini_broker.specs.Mail as mail
@@ -30,7 +28,7 @@ use Rattle.broker_view.specs.Recorded.{recorded, session_holder}
 use Rattle.broker_view.specs.Suits.{Suits}
 use Rattle.broker_view.proofs.Names.{same_text-true, same_place-true}
 use Rattle.broker_view.proofs.QueueRows.{all-rows, changed-rows_none, gone-rows, made-rows}
-use Rattle.broker_view.proofs.FreedRows.{freed_row, freed-rows}
+use Rattle.broker_view.proofs.FreedRows.{freed-rows}
 use Rattle.broker_view.proofs.EnteredRows.{entered-rows}
 use Rattle.broker_view.proofs.Copies.{Keeps, IsStep, Moves_nothing, Hands_nothing, copies-from, still-step, still-all, without-step, with_hold-step, apart-step}
 use Rattle.broker_view.proofs.CopySteps.{first-home, same-home, other-place, other-queue, purged-step, unpurged-step, gone-step, ungone-step, closed-step, unclosed-step}

@@ -1,6 +1,6 @@
 -- What each entry does to the rows of the queues.
-use Rattle.std.proofs.Common.{◌≡◌, ℕ, ◌+◌, ◌-◌, List, [], ◌∷◌, ◌++◌, Bool, true, false, cond, not, Option, Some, None, arith, refl, sym, ap, subst, ◌∙◌, map}
-use Rattle.std.specs.Prelude.{◌==◌, ◌&&◌, All, filter, filter_map, find, slice_get}
+use Rattle.std.proofs.Common.{◌≡◌, ℕ, ◌-◌, List, [], ◌∷◌, ◌++◌, Bool, true, false, cond, not, Option, Some, None, arith, refl, sym, ap, subst, ◌∙◌, map}
+use Rattle.std.specs.Prelude.{◌==◌, ◌&&◌, All, filter, find, slice_get}
 use Rattle.std.proofs.lemmas.Bool.{true≢false, false≢true, and_parts, and_from, and_left, and_right}
 use Rattle.std.proofs.lemmas.Option.{none-some, same_Some}
 use Rattle.std.proofs.lemmas.List.Elements.{All-head, All-tail}
@@ -13,19 +13,18 @@ use Rattle.fed_journal.specs.declared.place.Place.{Place}
 use Rattle.fed_journal.specs.declared.place.Client.{Client}
 use Rattle.fed_journal.specs.declared.entry.Publication.{Publication}
 use Rattle.fed_journal.specs.declared.entry.Entry.{Entry}
-use Rattle.fed_journal.specs.declared.entry.Entry.TheVariants.{GoneQueue, Delivered, Purged, Closed}
+use Rattle.fed_journal.specs.declared.entry.Entry.TheVariants.{GoneQueue, Purged, Closed}
 use Rattle.fed_journal.specs.Names.{same_text, same_place}
 use Rattle.fed_journal.specs.Holders as holders
 use Rattle.fed_journal.specs.Holders.{is_connection}
-use Rattle.fed_journal.specs.Copies.{Standing, Unknown, Ready, Held, Left, is_waiting, is_home, is_name_of, publication_of, entered, standing, moved, closed}
+use Rattle.fed_journal.specs.Copies.{Standing, Unknown, Ready, Held, Left, is_waiting, is_home, is_name_of, publication_of, entered, standing, closed}
 use Rattle.fed_journal.specs.Holds.{is_ready, first_ready}
-use Rattle.mini_broker.specs.Mail as mail
 use Rattle.mini_broker.specs.State.{VhostState}
-use Rattle.broker_view.specs.View.{HasHome, HaveHomes, IsHolder, IsChannel, StandsAs, RowStands, is_there, rows_in}
+use Rattle.broker_view.specs.View.{HasHome, HaveHomes, IsHolder, IsChannel, StandsAs, RowStands, rows_in}
 use Rattle.broker_view.proofs.Names.{same_text-true, same_text-refl, same_place-true, same_place-refl}
 use Rattle.broker_view.proofs.Matching.{Follows, all-changed, some-kept, none-changed, none-kept}
 use Rattle.broker_view.proofs.FreedRows.{freed_row, freed_hold, freed-ready, freed-session, freed-channel}
-use Rattle.broker_view.proofs.Copies.{Keeps, IsStep, Hands_nothing, row-stays, row-becomes, row-leaves}
+use Rattle.broker_view.proofs.Copies.{Keeps, IsStep, row-stays, row-becomes, row-leaves}
 
 -- ---- homes
 

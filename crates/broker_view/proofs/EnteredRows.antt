@@ -1,6 +1,6 @@
 -- The rows of a queue, where a message's copies enter.
-use Rattle.std.proofs.Common.{◌≡◌, ℕ, zero, suc, ◌+◌, ◌<◌, List, [], ◌∷◌, ◌++◌, length, Bool, true, false, cond, not, Option, Some, None, is_some, arith, refl, sym, ap, subst, ◌∙◌, append_assoc, append-nil}
-use Rattle.std.specs.Prelude.{All, position, option_map, nat_lt, ◌||◌}
+use Rattle.std.proofs.Common.{◌≡◌, ℕ, suc, ◌+◌, List, [], ◌∷◌, ◌++◌, length, Bool, true, false, cond, Option, Some, None, is_some, arith, refl, sym, ap, ◌∙◌, append-nil}
+use Rattle.std.specs.Prelude.{All, position, option_map, nat_lt}
 use Rattle.std.specs.List.{cons_option, list_any, position_or_len}
 use Rattle.std.proofs.lemmas.Bool.{true≢false, or_parts, lt-ltb, ltb-true}
 use Rattle.std.proofs.lemmas.List.Elements.{All-nil, All-cons, All-head, All-tail}
@@ -14,7 +14,7 @@ use Rattle.mini_broker.specs.Mail.{entered}
 use Rattle.mini_broker.specs.Queues.{Named, queue_of, changed, with_mail}
 use Rattle.mini_broker.specs.Publish.{all_entered}
 use Rattle.broker_view.specs.View.{AreDistinct, rows_in}
-use Rattle.broker_view.proofs.Names.{same_text-true, same_text-refl}
+use Rattle.broker_view.proofs.Names.{same_text-true}
 use Rattle.broker_view.proofs.Publications.{or_len-here, or_len-later}
 use Rattle.broker_view.proofs.QueueRows.{changed-rows}
 

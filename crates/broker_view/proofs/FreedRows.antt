@@ -1,7 +1,7 @@
 -- The rows of a queue, where a connection ends.
-use Rattle.std.proofs.Common.{◌≡◌, ℕ, zero, suc, ◌+◌, ◌<◌, List, [], ◌∷◌, Bool, true, false, cond, not, Option, Some, None, refl, ap, sym, ◌∙◌, subst, map, arith}
+use Rattle.std.proofs.Common.{◌≡◌, ℕ, suc, ◌+◌, ◌<◌, List, [], ◌∷◌, Bool, true, false, cond, not, Some, refl, ap, ◌∙◌, map, arith}
 use Rattle.std.specs.Prelude.{◌==◌, ◌&&◌, position}
-use Rattle.std.proofs.lemmas.Bool.{true≢false, false≢true, and_parts, eqb-true, eq-eqb, ne_eqb, and_left, and_right}
+use Rattle.std.proofs.lemmas.Bool.{and_parts, eqb-true, eq-eqb, ne_eqb, and_left, and_right}
 use Rattle.queue_core.specs.declared.rows.Holder.{Holder}
 use Rattle.queue_core.specs.declared.rows.Hold.{Hold}
 use Rattle.queue_core.specs.declared.rows.Hold.TheVariants as holds

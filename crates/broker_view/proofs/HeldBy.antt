@@ -1,10 +1,10 @@
 -- A client holds in the queues what the journal has it hold.
-use Rattle.std.proofs.Common.{◌≡◌, ℕ, ◌+◌, List, [], ◌∷◌, ◌++◌, Bool, true, false, cond, not, Option, Some, None, is_some, refl, sym, ap, subst, ◌∙◌, ◌⊎◌, inl, inr, map}
+use Rattle.std.proofs.Common.{◌≡◌, ℕ, List, [], ◌∷◌, Bool, true, false, cond, not, Option, Some, None, refl, sym, ap, subst, ◌∙◌, inl, inr, map}
 use Rattle.std.specs.Prelude.{◌==◌, ◌&&◌, ◌||◌, All, find, position}
 use Rattle.std.specs.List.{list_any}
 use Rattle.std.specs.Option.{option_map_or, option_and_then}
 use Rattle.std.specs.Str.{bytes_eq}
-use Rattle.std.proofs.lemmas.Bool.{true≢false, false≢true, and_parts, and_from, or_left, or_right, or_parts, eqb-true, eq-eqb}
+use Rattle.std.proofs.lemmas.Bool.{true≢false, false≢true, and_parts, and_from, or_left, or_right, eqb-true, eq-eqb}
 use Rattle.std.proofs.lemmas.Option.{none-some, same_Some}
 use Rattle.std.proofs.lemmas.List.Elements.{All-head, All-tail}
 use Rattle.queue_core.specs.declared.rows.Holder.{Holder}
@@ -26,11 +26,11 @@ use Rattle.mini_broker.specs.Mail.{Mail, is_held_at}
 use Rattle.mini_broker.specs.Queues.{Named, queue_of, is_held_in}
 use Rattle.mini_broker.specs.Settle.{holds_as}
 use Rattle.mini_broker.specs.State.{VhostState}
-use Rattle.broker_view.specs.View.{AreDistinct, HasCopies, IsChannel, IsHolder, StandsAs, RowStands, is_there, rows_in}
+use Rattle.broker_view.specs.View.{AreDistinct, HasCopies, IsHolder, StandsAs, RowStands, is_there, rows_in}
 use Rattle.broker_view.proofs.Names.{same_text-true, same_text-refl, same_text-sym, same_place-true, same_place-refl}
 use Rattle.broker_view.proofs.Alike.{alike, same_client-true, same_client-refl}
 use Rattle.broker_view.proofs.Clients.{number-once}
-use Rattle.broker_view.proofs.Matching.{Matches, HasRow, IsAway, matches-cases}
+use Rattle.broker_view.proofs.Matching.{Matches, matches-cases}
 
 -- ---- the row of a copy
 

@@ -8,13 +8,13 @@ use Rattle.route_core.specs.Routes.{routed_names}
 use Rattle.route_core.specs.Walks.{publish}
 use Rattle.fed_journal.specs.declared.place.Place.{Place}
 use Rattle.fed_journal.specs.declared.entry.Entry.{Entry}
-use Rattle.fed_journal.specs.Configuration.{is_connection_in, is_exclusive_in, queue_options, queue_owner, queues_of, goes_with, queues_owned}
+use Rattle.fed_journal.specs.Configuration.{is_connection_in, is_exclusive_in, queue_options, goes_with, queues_owned}
 use Rattle.fed_journal.specs.Messages.{headers_of}
 use Rattle.fed_journal.specs.Routes.{routes}
 use Rattle.mini_broker.specs.declared.standing.StandingQueue.{StandingQueue}
 use Rattle.mini_broker.specs.Close.{is_owned, owned_names}
 use Rattle.mini_broker.specs.Publish.{reached}
-use Rattle.mini_broker.specs.Queues.{Named, queue_of}
+use Rattle.mini_broker.specs.Queues.{Named}
 use Rattle.mini_broker.specs.State.{VhostState}
 use Rattle.broker_view.specs.View.{AreDistinct, IsConfigured}
 use Rattle.broker_view.proofs.HeldBy.{IsAmong, among-head, among-later}

@@ -1,20 +1,18 @@
 -- Publications, their copies and the queues that these entered, in a journal that is one entry longer.
-use Rattle.std.proofs.Common.{◌≡◌, ℕ, zero, suc, ◌+◌, ◌-◌, ◌<◌, ◌≤◌, List, [], ◌∷◌, ◌++◌, length, Bool, true, false, Option, Some, None, arith, refl, sym, ap, subst, ◌∙◌, append-nil}
-use Rattle.std.specs.Prelude.{cond, not, ◌&&◌, nat_le, nat_lt, position, slice_get, option_map, filter_map, fold, All}
+use Rattle.std.proofs.Common.{◌≡◌, ℕ, suc, ◌+◌, ◌<◌, List, [], ◌∷◌, ◌++◌, length, Bool, true, false, Some, None, arith, refl, sym, ap, subst, ◌∙◌, append-nil}
+use Rattle.std.specs.Prelude.{cond, not, nat_lt, position, slice_get, fold}
 use Rattle.std.specs.List.{position_or_len, cons_option}
-use Rattle.std.proofs.lemmas.Bool.{and_parts, and_from, le-leb, lt-ltb, ltb-true}
+use Rattle.std.proofs.lemmas.Bool.{lt-ltb, ltb-true}
 use Rattle.std.proofs.lemmas.Option.{none-some, same_Some, cond_some}
 use Rattle.std.proofs.lemmas.List.Sums.{fold-append}
-use Rattle.std.proofs.lemmas.List.Elements.{filter_map-append, All-weaker, All-push}
+use Rattle.std.proofs.lemmas.List.Elements.{filter_map-append}
 use Rattle.fed_journal.specs.declared.place.Place.{Place}
 use Rattle.fed_journal.specs.declared.entry.Publication.{Publication}
 use Rattle.fed_journal.specs.declared.entry.Entry.{Entry}
 use Rattle.fed_journal.specs.declared.entry.Entry.TheVariants.{Published}
-use Rattle.fed_journal.specs.Names.{same_text, same_place}
-use Rattle.fed_journal.specs.Copies.{Standing, Ready, copy_count, is_copy_of, entered_by, entered, is_home, is_name_of, publication_of, standing, standing_step}
-use Rattle.mini_broker.specs.Publish.{first_of}
-use Rattle.broker_view.specs.View.{HasHome, HaveHomes}
-use Rattle.broker_view.specs.Suits.{Suits}
+use Rattle.fed_journal.specs.Names.{same_text}
+use Rattle.fed_journal.specs.Copies.{Ready, is_copy_of, entered_by, entered, publication_of, standing, standing_step}
+use Rattle.broker_view.specs.View.{HasHome}
 
 -- ---- the publication of a copy
 

@@ -1,9 +1,8 @@
 -- A publication's copies enter the queues.
-use Rattle.std.proofs.Common.{◌≡◌, ℕ, zero, suc, ◌+◌, ◌-◌, ◌<◌, ◌≤◌, List, [], ◌∷◌, ◌++◌, length, Bool, true, false, cond, not, Option, Some, None, is_some, arith, refl, sym, ap, subst, ◌∙◌, map, append-nil}
-use Rattle.std.specs.Prelude.{◌&&◌, All, filter, filter_map, position, slice_get, option_map, nat_le, nat_lt}
+use Rattle.std.proofs.Common.{◌≡◌, ℕ, ◌+◌, ◌-◌, ◌<◌, List, [], ◌∷◌, ◌++◌, length, Bool, true, false, cond, Option, Some, None, arith, refl, sym, ap, subst, ◌∙◌, map, append-nil}
+use Rattle.std.specs.Prelude.{All, filter, position, slice_get, option_map, nat_le, nat_lt}
 use Rattle.std.specs.List.{cons_option}
-use Rattle.std.proofs.lemmas.Bool.{true≢false, and_from, le-leb, lt-ltb}
-use Rattle.std.proofs.lemmas.Option.{none-some, same_Some}
+use Rattle.std.proofs.lemmas.Bool.{and_from, le-leb, lt-ltb}
 use Rattle.std.proofs.lemmas.List.Elements.{All-push, All-weaker}
 use Rattle.queue_core.specs.declared.rows.Hold.TheVariants as numbers
 use Rattle.queue_core.specs.declared.rows.Row.{Row}
@@ -13,15 +12,15 @@ use Rattle.fed_journal.specs.declared.entry.Publication.{Publication}
 use Rattle.fed_journal.specs.declared.entry.Entry.{Entry}
 use Rattle.fed_journal.specs.declared.entry.Entry.TheVariants.{Published}
 use Rattle.fed_journal.specs.Names.{same_text, same_place}
-use Rattle.fed_journal.specs.Copies.{Ready, is_left, is_copy_of, is_home, is_name_of, copy_count, publication_of, entered, entered_by, standing}
+use Rattle.fed_journal.specs.Copies.{is_copy_of, is_home, is_name_of, copy_count, publication_of, entered}
 use Rattle.mini_broker.specs.Publish.{first_of}
 use Rattle.mini_broker.specs.State.{VhostState}
 use Rattle.broker_view.specs.View.{HasHome, HaveHomes, HasCopies, StandsAs, RowStands, is_there, rows_in}
 use Rattle.broker_view.specs.Suits.{Suits}
-use Rattle.broker_view.proofs.Names.{same_text-true, same_text-refl, same_place-true}
+use Rattle.broker_view.proofs.Names.{same_text-true, same_text-refl}
 use Rattle.broker_view.proofs.Publications.{publication-skip, publication-head, standing-fresh, entered-push, entered-same, home-longer, name-at, position-within}
-use Rattle.broker_view.proofs.Matching.{Matches, Follows, change-all, none-changed, row-there}
-use Rattle.broker_view.proofs.Copies.{Keeps, IsStep, away, row-stays, still-all}
+use Rattle.broker_view.proofs.Matching.{Matches, change-all, none-changed, row-there}
+use Rattle.broker_view.proofs.Copies.{Keeps, away, row-stays}
 use Rattle.broker_view.proofs.EnteredRows.{entering}
 use Rattle.broker_view.proofs.HeldHome.{held-step}
 

@@ -1,13 +1,11 @@
 -- What the queues answer is what the journal says.
-use Rattle.std.proofs.Common.{◌≡◌, ℕ, ◌+◌, List, [], ◌∷◌, ◌++◌, Bool, true, false, cond, not, Option, Some, None, arith, refl, sym, ap, subst, ◌∙◌, ◌⊎◌, inl, inr, map}
-use Rattle.std.specs.Prelude.{◌==◌, ◌&&◌, ◌||◌, All, find, count_by, position, slice_get}
+use Rattle.std.proofs.Common.{◌≡◌, ℕ, ◌+◌, List, [], ◌∷◌, Bool, true, false, cond, not, Option, Some, None, arith, refl, sym, ap, ◌∙◌, inl, inr}
+use Rattle.std.specs.Prelude.{◌==◌, ◌&&◌, find, count_by, slice_get}
 use Rattle.std.specs.List.{list_any}
 use Rattle.std.specs.Option.{option_map, option_map_or, option_and_then}
-use Rattle.std.specs.Str.{bytes_eq}
-use Rattle.std.proofs.lemmas.Bool.{true≢false, false≢true, and_parts, and_from, or_left, or_right, eqb-true, eq-eqb}
-use Rattle.std.proofs.lemmas.Option.{none-some, same_Some}
+use Rattle.std.proofs.lemmas.Bool.{true≢false}
+use Rattle.std.proofs.lemmas.Option.{none-some}
 use Rattle.std.proofs.lemmas.List.Sums.{sum_by-append}
-use Rattle.std.proofs.lemmas.List.Elements.{All-nil, All-cons, All-head, All-tail}
 use Rattle.queue_core.specs.declared.rows.Holder.{Holder}
 use Rattle.queue_core.specs.declared.rows.Hold.{Hold}
 use Rattle.queue_core.specs.declared.rows.Hold.TheVariants as numbers
@@ -16,11 +14,10 @@ use Rattle.queue_core.specs.Rows as rows
 use Rattle.fed_journal.specs.declared.place.Place.{Place}
 use Rattle.fed_journal.specs.declared.place.Client.{Client}
 use Rattle.fed_journal.specs.declared.entry.Entry.{Entry}
-use Rattle.fed_journal.specs.Names.{same_place}
 use Rattle.fed_journal.specs.Holders as holders
 use Rattle.fed_journal.specs.Holders.{same_client}
 use Rattle.fed_journal.specs.Copies.{Standing, Unknown, Ready, Held, Left, is_left, is_waiting, entered, standing}
-use Rattle.fed_journal.specs.Holds.{holder, holder_in, is_ready, first_ready, ready_count, is_held_by, is_client_of}
+use Rattle.fed_journal.specs.Holds.{holder, holder_in, is_ready, first_ready, ready_count}
 use Rattle.fed_journal.specs.Consumers.{is_held_for, is_consumer_of, handed_since, held_count}
 use Rattle.mini_broker.specs.declared.standing.StandingQueue.{StandingQueue}
 use Rattle.mini_broker.specs.declared.consumer.Consumer.{Consumer}
@@ -28,8 +25,8 @@ use Rattle.mini_broker.specs.Queues as queues
 use Rattle.mini_broker.specs.Queues.{Named, queue_of}
 use Rattle.mini_broker.specs.Deliver as deliver
 use Rattle.mini_broker.specs.State.{VhostState}
-use Rattle.broker_view.specs.View.{HasCopies, StandsAs, RowStands, IsHolder, IsChannel, is_there, rows_in}
-use Rattle.broker_view.proofs.Matching.{Matches, HasRow, IsAway, matches-cases}
+use Rattle.broker_view.specs.View.{HasCopies, StandsAs, RowStands, IsHolder, is_there, rows_in}
+use Rattle.broker_view.proofs.Matching.{Matches, matches-cases}
 use Rattle.broker_view.proofs.CopySteps.{ready-as}
 
 -- ---- tests of rows and of copies

@@ -1,9 +1,9 @@
 -- The rows of a queue of that name, where queues change.
-use Rattle.std.proofs.Common.{◌≡◌, ℕ, ◌+◌, List, [], ◌∷◌, ◌++◌, Bool, true, false, cond, not, Option, Some, None, is_some, refl, ap, sym, ◌∙◌, subst, ◌⊎◌, inl, inr, map, append_assoc, append-nil}
+use Rattle.std.proofs.Common.{◌≡◌, ℕ, List, [], ◌∷◌, ◌++◌, Bool, true, false, cond, not, Option, Some, None, is_some, refl, ap, sym, ◌∙◌, ◌⊎◌, inl, inr}
 use Rattle.std.specs.Prelude.{filter}
 use Rattle.std.specs.Option.{option_map_or}
 use Rattle.std.specs.Str.{bytes_eq}
-use Rattle.std.proofs.lemmas.Bool.{true≢false, false≢true}
+use Rattle.std.proofs.lemmas.Bool.{false≢true}
 use Rattle.queue_core.specs.declared.rows.Row.{Row}
 use Rattle.fed_journal.specs.Names.{same_text}
 use Rattle.mini_broker.specs.declared.standing.StandingQueue.{StandingQueue}

@@ -1,24 +1,21 @@
 -- The hosts of a run are views of its journal after one entry more.
-use Rattle.std.proofs.Common.{◌≡◌, ℕ, zero, suc, ◌+◌, ◌<◌, List, [], ◌∷◌, ◌++◌, length, take, drop, slice_index_or, Bool, true, false, cond, Option, Some, None, is_some, arith, refl, sym, ap, subst, ◌∙◌, map, append_assoc, append-nil}
-use Rattle.std.specs.Prelude.{◌||◌, ◌&&◌, All, codes}
-use Rattle.std.specs.List.{list_any, list_all}
-use Rattle.std.proofs.lemmas.Bool.{true≢false, false≢true, and_parts, or_left, or_from}
+use Rattle.std.proofs.Common.{◌≡◌, ℕ, zero, suc, ◌+◌, ◌<◌, List, [], ◌∷◌, ◌++◌, length, take, drop, slice_index_or, Bool, true, false, cond, arith, refl, sym, ap, subst, ◌∙◌, map, append_assoc}
+use Rattle.std.specs.Prelude.{◌||◌, All}
+use Rattle.std.specs.List.{list_any}
+use Rattle.std.proofs.lemmas.Bool.{true≢false, false≢true, or_from}
 use Rattle.std.proofs.lemmas.List.Elements.{All-nil, All-cons, All-head, All-tail, All-push, All-weaker}
-use Rattle.fed_journal.specs.declared.place.Place.{Place}
 use Rattle.fed_journal.specs.declared.entry.Entry.{Entry}
 use Rattle.fed_journal.specs.declared.entry.Entry.TheVariants.{Begun}
 use Rattle.fed_journal.specs.Copies.{IsFitting}
 use Rattle.fed_journal.specs.Names.{same_text}
 use Rattle.fed_journal.specs.Configuration.{begins, is_broker}
-use Rattle.mini_broker.specs.State.{VhostState}
 use Rattle.mini_broker.specs.Vhosts.{bare}
 use Rattle.broker_view.specs.declared.host.Host.{Host}
 use Rattle.broker_view.specs.Hosts.{place_of, recorded_at, with_host, AreViews, IsRecordable, IsNext, LeadsOn, Leads}
-use Rattle.broker_view.specs.Recorded.{recorded}
 use Rattle.broker_view.specs.Suits.{Suits, EachSuits, is_begun}
 use Rattle.broker_view.specs.View.{AreDistinct, IsView}
 use Rattle.broker_view.proofs.Bare.{bare-view}
-use Rattle.broker_view.proofs.Names.{same_text-true, same_text-refl, same_text-sym}
+use Rattle.broker_view.proofs.Names.{same_text-true, same_text-sym}
 use Rattle.broker_view.proofs.ViewStep.{view-step}
 
 any-append : {X : Type 0} (test : X → Bool) (xs ys : List X) → list_any test (xs ++ ys) ≡ (list_any test xs || list_any test ys)

@@ -1,6 +1,6 @@
 -- What an entry needs in the journal before it.
 use Rattle.std.specs.List.{list_all}
-use Rattle.std.specs.Prelude.{◌≡◌, ◌+◌, ℕ, Bool, List, [], ◌∷◌, ◌++◌, true, false, None, Some, is_some}
+use Rattle.std.specs.Prelude.{◌≡◌, ◌+◌, Bool, List, [], ◌∷◌, ◌++◌, true, false, None, Some, is_some}
 use Rattle.std.specs.Str.{bytes_eq}
 use Rattle.fed_journal.specs.declared.entry.Entry.{Entry}
 use Rattle.fed_journal.specs.declared.entry.Entry.TheVariants.{Begun, MadeQueue, MadeExchange, GoneQueue, Published, Took, Consumed, Delivered, Acked, Rejected, Requeued}

@@ -1,4 +1,4 @@
-use Rattle.std.proofs.Common.{◌≡◌, [], ◌∷◌, ◌++◌, sym, subst}
+use Rattle.std.proofs.Common.{[], ◌∷◌, ◌++◌, sym, subst}
 use Rattle.broker_view.specs.Hosts.{AreViews}
 use Rattle.broker_view.specs.Suits.{Suits}
 use Rattle.broker_view.proofs.ViewsStep.{begun-step, recorded-step, not-begun}

@@ -1,4 +1,4 @@
-use Rattle.std.proofs.Common.{◌≡◌, Some, sym, ap, subst, ◌∙◌}
+use Rattle.std.proofs.Common.{sym, ap, ◌∙◌}
 use Rattle.mini_broker.specs.Queues.{ready_in}
 use Rattle.mini_broker.specs.Record.{with_handed}
 use Rattle.broker_view.proofs.RecordLemmas.{ready-at, handed-as}

@@ -1,4 +1,4 @@
-use Rattle.std.proofs.Common.{◌≡◌, ap, ◌∙◌, inl, inr}
+use Rattle.std.proofs.Common.{ap, ◌∙◌, inl, inr}
 use Rattle.mini_broker.specs.Record.{with_taken}
 use Rattle.fed_journal.specs.declared.entry.Entry.TheVariants.{Settled, Acked, Rejected}
 use Rattle.broker_view.proofs.HostLemmas.{recorded-as}

@@ -1,6 +1,4 @@
-use Rattle.std.proofs.Common.{◌≡◌, ◌++◌, take, drop}
-use Rattle.std.specs.Prelude.{All}
-use Rattle.fed_journal.specs.Copies.{IsFitting}
+use Rattle.std.proofs.Common.{◌++◌, take, drop}
 use Rattle.broker_view.specs.Hosts.{Leads}
 use Rattle.broker_view.proofs.brokers.Brokers.record.Given as goal
 

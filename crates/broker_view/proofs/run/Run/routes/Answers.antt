@@ -1,4 +1,4 @@
-use Rattle.std.proofs.Common.{◌<◌, ◌+◌, ◌≤◌, length, arith, sym, subst}
+use Rattle.std.proofs.Common.{◌<◌, length, arith, sym, subst}
 use Rattle.fed_journal.specs.SiteLaws.{routes-few}
 use Rattle.broker_view.proofs.run.Run.routes.Goals as goal
 

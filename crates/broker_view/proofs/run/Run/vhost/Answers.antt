@@ -1,4 +1,4 @@
-use Rattle.std.proofs.Common.{◌≡◌, true, false, Some, None, sym, ap, subst, ◌∙◌}
+use Rattle.std.proofs.Common.{◌≡◌, true, false, Some, None, subst}
 use Rattle.fed_journal.specs.Configuration.{is_place}
 use Rattle.broker_view.specs.View.{IsView}
 use Rattle.broker_view.proofs.HostLemmas.{known-place, view-place}
