@@ -1,7 +1,7 @@
 -- The queue of a copy that is stored, or that a link took, belongs to no connection alone.
 use Rattle.std.proofs.Common.{◌≡◌, ℕ, zero, suc, ◌+◌, ◌-◌, ◌<◌, ◌≤◌, List, [], ◌∷◌, ◌++◌, length, Bool, true, false, Option, Some, None, arith, refl, sym, ap, subst, ◌∙◌, take, drop}
-use Rattle.std.specs.Prelude.{cond, not, ◌&&◌, nat_le, nat_lt, position, slice_get, option_map, sum_by, find, filter_map}
-use Rattle.std.specs.List.{position_or_len, list_any}
+use Rattle.std.specs.Prelude.{cond, not, ◌&&◌, nat_le, nat_lt, position, slice_get, option_map, filter_map}
+use Rattle.std.specs.List.{position_or_len}
 use Rattle.std.proofs.lemmas.Bool.{false≢true, and_parts, and_from, le-leb, leb-true, ltb-true, lt-ltb}
 use Rattle.std.proofs.lemmas.Option.{none-some, same_Some, cond_some}
 use Rattle.std.proofs.lemmas.List.Sums.{sum_by-append}
@@ -19,7 +19,7 @@ use Rattle.fed_journal.specs.Names.{same_text, same_place}
 use Rattle.fed_world.specs.Kept.{StandsAfter}
 use Rattle.fed_world.specs.Publish.{first_copy}
 use Rattle.fed_world.specs.Take.{first_ready_at}
-use Rattle.fed_world.proofs.Causes.{is_shared, is_shared_in, Caused, EachCaused, SharesSource, TakesFirst, caused-at, caused-back, caused-front}
+use Rattle.fed_world.proofs.Causes.{is_shared, is_shared_in, Caused, EachCaused, SharesSource, TakesFirst, caused-at, caused-back}
 use Rattle.fed_world.proofs.Described.{described-later}
 use Rattle.fed_world.proofs.Inversions.{same_text-true}
 use Rattle.fed_world.proofs.Lists.{IsIn, Split, find-in, filter_map-in, in-split}

@@ -1,6 +1,6 @@
 -- A queue that no connection has to itself stays as it is.
 use Rattle.std.proofs.Common.{◌≡◌, ℕ, List, [], ◌∷◌, ◌++◌, Bool, true, false, Option, Some, None, refl, sym, ap, subst, ◌∙◌, append_assoc, append-nil}
-use Rattle.std.specs.Prelude.{cond, not, ◌&&◌, fold}
+use Rattle.std.specs.Prelude.{cond, ◌&&◌}
 use Rattle.std.proofs.lemmas.Bool.{true≢false, false≢true, and_parts, and_from}
 use Rattle.std.proofs.lemmas.List.Sums.{fold-append}
 use Rattle.amqp_props.specs.declared.link.QueueOptions.{QueueOptions}

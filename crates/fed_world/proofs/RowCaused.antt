@@ -1,5 +1,5 @@
 -- Each event appends entries that have their causes.
-use Rattle.std.proofs.Common.{◌≡◌, ℕ, ◌+◌, ◌-◌, ◌<◌, List, [], ◌∷◌, ◌++◌, length, Bool, true, false, Option, Some, None, refl, sym, ap, subst, inl, inr}
+use Rattle.std.proofs.Common.{◌≡◌, ℕ, ◌+◌, List, [], ◌∷◌, ◌++◌, Bool, true, false, Option, Some, None, refl, sym, ap, subst, inl, inr}
 use Rattle.std.specs.Prelude.{Ok, Err, not, cond, ◌&&◌, ◌||◌, is_some, map, find, filter, filter_map}
 use Rattle.std.specs.List.{list_any}
 use Rattle.std.proofs.lemmas.Bool.{true≢false, false≢true, not_from_false}
@@ -60,7 +60,7 @@ use Rattle.std.specs.Prelude.{codes}
 use Rattle.std.proofs.lemmas.Bool.{and_parts}
 use Rattle.fed_journal.specs.Configuration.{is_place}
 use Rattle.fed_world.proofs.RowHas.{unless_refused-has, unless_known_refused-has, if_not-has, at_known_place-has, while_known_open-has, RowHas, either-has, at_place-has, with_link-has, while_open-has, one_or_empty-has}
-use Rattle.fed_world.proofs.Homes.{entered_by-enters, entered-split}
+use Rattle.fed_world.proofs.Homes.{entered_by-enters}
 use Rattle.fed_world.proofs.Queues.{options-push, shared-push, is_queue-refl, is_queue-other}
 
 -- the place of an entry that is known to be another

@@ -1,7 +1,7 @@
 -- Each row brings entries that fit.
 use Rattle.std.proofs.Common.{ℕ, ◌+◌, ◌≤◌, ◌<◌, ◌^◌, List, [], ◌∷◌, ◌++◌, length, Bool, true, false, Option, Some, None, arith, sym, subst, append_assoc, length-append}
 use Rattle.std.proofs.lemmas.List.Elements.{All-head, All-tail}
-use Rattle.std.specs.Prelude.{All, Ok, Err, not, ◌&&◌, if◌then◌else◌, find, map}
+use Rattle.std.specs.Prelude.{All, Ok, Err, not, if◌then◌else◌, find, map}
 use Rattle.fed_journal.specs.declared.place.Place.{Place}
 use Rattle.amqp_props.specs.declared.message.Message.{Message}
 use Rattle.fed_journal.specs.declared.event.Event.{Event}
@@ -16,7 +16,6 @@ use Rattle.fed_journal.specs.declared.entry.Publication.{Publication}
 use Rattle.fed_journal.specs.declared.entry.Entry.{Entry}
 use Rattle.fed_journal.specs.declared.entry.Entry.TheVariants.{MadeQueue, GoneQueue, Closed, Published, Flushed, ShovelSet, Opened}
 use Rattle.fed_journal.specs.Configuration.{is_place, is_broker}
-use Rattle.fed_journal.specs.Names.{is_reserved}
 use Rattle.fed_journal.specs.Copies.{copy_count, publication_of, is_copy_of, is_secured}
 use Rattle.fed_journal.specs.Links.{link_of, is_shovel_set}
 use Rattle.fed_journal.specs.Phases.{phase, session, is_open}

@@ -1,6 +1,6 @@
 -- Each entry that a row appends suits the journal before it.
-use Rattle.std.proofs.Common.{◌≡◌, ℕ, ◌+◌, List, [], ◌∷◌, ◌++◌, Bool, true, false, Option, Some, None, refl, sym, subst, ap, ◌∙◌}
-use Rattle.std.specs.Prelude.{Ok, Err, not, ◌&&◌, ◌||◌, is_some, map, find}
+use Rattle.std.proofs.Common.{◌≡◌, ℕ, ◌+◌, List, [], ◌∷◌, ◌++◌, Bool, true, false, Option, Some, None, refl, ap, ◌∙◌}
+use Rattle.std.specs.Prelude.{Ok, Err, not, ◌&&◌, ◌||◌, is_some, find}
 use Rattle.std.specs.List.{list_all}
 use Rattle.std.proofs.lemmas.Bool.{true≢false, or_parts}
 use Rattle.std.proofs.lemmas.List.Folds.{list_all-append}
@@ -20,7 +20,7 @@ use Rattle.fed_journal.specs.declared.entry.Publisher.TheVariants.{Client, Link}
 use Rattle.fed_journal.specs.declared.entry.Publication.{Publication}
 use Rattle.fed_journal.specs.declared.entry.Entry.{Entry}
 use Rattle.fed_journal.specs.declared.entry.Entry.TheVariants.{MadeQueue, Published, Flushed, ShovelSet, Took, Opened}
-use Rattle.fed_journal.specs.Configuration.{is_broker, queue_options, exchange_shape, queues_owned}
+use Rattle.fed_journal.specs.Configuration.{is_broker, queue_options, exchange_shape}
 use Rattle.fed_journal.specs.Names.{same_text, is_reserved}
 use Rattle.fed_journal.specs.Routes.{is_bound, routes}
 use Rattle.fed_journal.specs.Copies.{standing, is_secured, publication_of}

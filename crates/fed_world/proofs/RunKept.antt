@@ -1,21 +1,18 @@
 -- Every run is kept.
 use Rattle.std.proofs.Common.{ℕ, List, [], ◌∷◌, ◌++◌}
-use Rattle.std.specs.Prelude.{Ok, Err}
 use Rattle.std.proofs.Common.{◌≡◌, true, refl, ap, ◌∙◌}
 use Rattle.std.specs.Prelude.{◌&&◌}
 use Rattle.std.specs.List.{list_all}
 use Rattle.std.proofs.lemmas.List.Folds.{list_all-append}
 use Rattle.fed_journal.specs.declared.event.Event.{Event}
 use Rattle.fed_journal.specs.declared.entry.Entry.{Entry}
-use Rattle.fed_world.specs.Row.{Row}
 use Rattle.fed_world.specs.Step.{next, after}
 use Rattle.fed_world.specs.Run.{begin, begun, run, last_journal}
 use Rattle.fed_world.specs.Kept.{IsKept, EachMoment, HoldsTaken}
-use Rattle.fed_world.proofs.Causes.{is_begun, EachCaused, caused-append}
+use Rattle.fed_world.proofs.Causes.{is_begun, EachCaused}
 use Rattle.fed_world.proofs.Held.{held-at, holds-at}
 use Rattle.fed_world.proofs.Moved.{moved-at}
 use Rattle.fed_world.proofs.RowCaused.{next-caused}
-use Rattle.fed_world.proofs.RowHas.{RowHas}
 use Rattle.fed_world.proofs.Stages.{follows-stages}
 use Rattle.fed_world.proofs.Stored.{after-caused, run-keeps_stored}
 

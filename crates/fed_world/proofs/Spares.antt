@@ -11,7 +11,7 @@ use Rattle.fed_journal.specs.declared.link.StartState.{StartState}
 use Rattle.fed_journal.specs.declared.link.StartState.TheVariants.{Start, NoBroker, NameTooLong}
 use Rattle.fed_journal.specs.declared.entry.Publication.{Publication}
 use Rattle.fed_journal.specs.declared.entry.Entry.{Entry}
-use Rattle.fed_journal.specs.declared.entry.Entry.TheVariants.{MadeQueue, GoneQueue, Opened, Flushed, ShovelSet}
+use Rattle.fed_journal.specs.declared.entry.Entry.TheVariants.{GoneQueue, Opened, Flushed, ShovelSet}
 use Rattle.fed_journal.specs.Configuration.{is_broker, queues_owned}
 use Rattle.fed_journal.specs.Copies.{Standing, Unknown, Ready, Held, Left, is_left, is_home, closed, standing_step, publication_of, is_secured}
 use Rattle.fed_journal.specs.Holders.{is_connection}
@@ -24,7 +24,7 @@ use Rattle.fed_world.specs.Row.{oldest, lock_refusal, queue_refusal}
 use Rattle.fed_world.specs.Answer.{answer_refusal, requeue_row}
 use Rattle.fed_world.specs.Consume.{consumes, consume_row, cancel_row}
 use Rattle.fed_world.specs.Close.{close_row}
-use Rattle.fed_world.specs.Declare.{declare_row, declared_queue, same_options, declare_exchange_row, declared_exchange, same_shape, is_exchange_refused, stands, is_refused, lasting}
+use Rattle.fed_world.specs.Declare.{declare_row, declared_queue, same_options, declare_exchange_row, declared_exchange, same_shape, is_exchange_refused, stands, is_refused}
 use Rattle.fed_world.specs.Publish.{publish_row, publish_refusal}
 use Rattle.amqp_props.specs.declared.link.QueueOptions.{QueueOptions}
 use Rattle.amqp_props.specs.declared.message.Message.{Message}

@@ -1,6 +1,6 @@
 -- A copy that is alive and stored stays so while nothing removes it.
 use Rattle.std.proofs.Common.{◌≡◌, ℕ, ◌+◌, ◌<◌, List, [], ◌∷◌, ◌++◌, length, zero, suc, Bool, true, false, Option, Some, None, arith, refl, sym, subst, ap, take, drop, ◌∙◌, append_assoc, append-nil}
-use Rattle.std.specs.Prelude.{Ok, Err, not, cond, fold, nat_lt, position, slice_get}
+use Rattle.std.specs.Prelude.{Ok, Err, not, cond, nat_lt, position, slice_get}
 use Rattle.std.specs.List.{list_any, position_or_len}
 use Rattle.std.proofs.lemmas.Bool.{true≢false, false≢true, and_parts, and_from, or_left, ltb-true, lt-ltb, ne_eqb, not-true, not_from_false}
 use Rattle.std.proofs.lemmas.Option.{cond_some}
@@ -16,7 +16,7 @@ use Rattle.fed_world.specs.Step.{next, after}
 use Rattle.fed_world.specs.Run.{run, moment}
 use Rattle.fed_world.specs.Kept.{is_alive, EachMoment, KeepsStored}
 use Rattle.fed_world.proofs.RowHas.{RowHas}
-use Rattle.fed_world.proofs.Causes.{is_shared, Caused, EachCaused, caused-append}
+use Rattle.fed_world.proofs.Causes.{Caused, EachCaused, caused-append}
 use Rattle.fed_world.proofs.Homes.{position-within, stored-home}
 use Rattle.fed_world.proofs.RowCaused.{next-caused}
 use Rattle.fed_world.proofs.Spares.{Spares, SparesEach, takes_away, next-spares}

@@ -1,5 +1,5 @@
 -- A client's connection ends (AMQP 0-9-1, connection.close).
-use Rattle.std.specs.Prelude.{ℕ, List, [], ◌∷◌, Ok, map}
+use Rattle.std.specs.Prelude.{ℕ, List, ◌∷◌, Ok, map}
 use Rattle.fed_journal.specs.declared.place.Place.{Place}
 use Rattle.fed_journal.specs.declared.entry.Entry.{Entry}
 use Rattle.fed_journal.specs.declared.entry.Entry.TheVariants.{Closed, GoneQueue}

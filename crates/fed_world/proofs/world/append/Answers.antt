@@ -1,4 +1,4 @@
-use Rattle.std.proofs.Common.{◌≡◌, ◌+◌, ◌≤◌, ◌++◌, ◌∷◌, [], ◌∙◌, refl, ap, arith, length, length-append, append_assoc}
+use Rattle.std.proofs.Common.{◌≡◌, ◌+◌, ◌++◌, ◌∷◌, [], ◌∙◌, refl, ap, arith, length, length-append, append_assoc}
 use Rattle.fed_journal.specs.Sizes.{entry_bytes, byte_count}
 use Rattle.fed_world.proofs.SizeLemmas.{byte-cons, byte-push}
 use Rattle.fed_world.proofs.world.append.Goals as goal
