@@ -6,7 +6,7 @@ ghost use Rattle.policy_core.specs.Policies.{policy_of};
 ghost use Rattle.fed_defs.specs.Policies.{rule_of, policy_in};
 ghost use Rattle.upstream_sets.specs.declared.table.Component.TheVariants as component;
 ghost use Rattle.upstream_sets.specs.Fitting.{has_one_key, could_choose};
-ghost use Rattle.upstream_sets.specs.Tables.{IsTableOf};
+ghost use Rattle.upstream_sets.specs.Tables.{IsTableOf, IsTableOf-prop};
 
 use crate::table::{Component, ParameterTable};
 use fed_defs::{Config, Owner, PolicyDef, VhostConfig};
@@ -31,8 +31,10 @@ pub(crate) struct Scope<'a> {
     /// Its sets of upstreams under their names.
     pub(crate) sets: ParameterTable<'a>,
     ghost ruled: { map policy_of rules.now ≡ map rule_of vhost.now.policies },
-    ghost tabled: { IsTableOf component.Upstream upstreams vhost.now.parameters },
-    ghost tabled_sets: { IsTableOf component.Set sets vhost.now.parameters },
+    ghost tabled: { IsTableOf component.Upstream upstreams vhost.now.parameters }
+        by { IsTableOf-prop component.Upstream upstreams vhost.now.parameters },
+    ghost tabled_sets: { IsTableOf component.Set sets vhost.now.parameters }
+        by { IsTableOf-prop component.Set sets vhost.now.parameters },
 }
 
 /// What decides between a policy and others.
