@@ -31,10 +31,8 @@ pub(crate) struct Scope<'a> {
     /// Its sets of upstreams under their names.
     pub(crate) sets: ParameterTable<'a>,
     ghost ruled: { map policy_of rules.now ≡ map rule_of vhost.now.policies },
-    ghost tabled: { IsTableOf component.Upstream upstreams vhost.now.parameters }
-        by { IsTableOf-prop component.Upstream upstreams vhost.now.parameters },
-    ghost tabled_sets: { IsTableOf component.Set sets vhost.now.parameters }
-        by { IsTableOf-prop component.Set sets vhost.now.parameters },
+    ghost tabled: { IsTableOf component.Upstream upstreams vhost.now.parameters } by { IsTableOf-prop component.Upstream upstreams vhost.now.parameters },
+    ghost tabled_sets: { IsTableOf component.Set sets vhost.now.parameters } by { IsTableOf-prop component.Set sets vhost.now.parameters },
 }
 
 /// What decides between a policy and others.
