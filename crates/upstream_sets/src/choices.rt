@@ -1,5 +1,5 @@
 //! The upstreams that policies choose.
-ghost use Rattle.std.specs.Prelude.{◌≡◌, IfOk, None};
+ghost use Rattle.std.specs.Prelude.{◌≡◌, [], IfOk, None, unwrap_or};
 ghost use Rattle.std.specs.Option.{option_copied, option_or};
 ghost use Rattle.fed_defs.specs.Choices as choices;
 ghost use Rattle.fed_defs.specs.Choices.{no_overrides};
@@ -9,62 +9,48 @@ use crate::scope::Scope;
 use amqp_props::Text;
 use fed_defs::{
     Choice, Overrides, ParameterDef, ParameterValue, PolicyDef, SetMember, SharedPattern,
-    UpstreamDef, VhostConfig,
+    UpstreamDef,
 };
 use std::alloc::AllocError;
 
-/// The value of the parameter, where it is the upstream of that name.
-#[tactic(auto, unfolding(fed_defs::specs::Choices::upstream_if))]
-fn upstream_if<'a>(name: &Text, parameter: &'a ParameterDef) -> Option<&'a UpstreamDef>
-    ensures { option_copied result ≡ choices.upstream_if name.now parameter.now }
+/// The upstream that the parameter is.
+fn upstream_in(parameter: &ParameterDef) -> Option<&UpstreamDef>
+    ensures { option_copied result ≡ choices.upstream_value parameter.now.value }
 {
-    if parameter.name.as_str() != name.as_str() {
-        return None;
-    }
     match &parameter.value {
         ParameterValue::Upstream(upstream) => Some(upstream),
         _ => None,
     }
 }
 
-/// The members, where the parameter is the set of that name.
-#[tactic(auto, unfolding(fed_defs::specs::Choices::set_if))]
-fn set_if<'a>(name: &Text, parameter: &'a ParameterDef) -> Option<&'a [SetMember]>
-    ensures { option_copied result ≡ choices.set_if name.now parameter.now }
+/// The members of the set that the parameter is.
+fn members_in(parameter: &ParameterDef) -> &[SetMember]
+    ensures { result.now ≡ unwrap_or (choices.set_value parameter.now.value) [] }
 {
-    if parameter.name.as_str() != name.as_str() {
-        return None;
-    }
     match &parameter.value {
-        ParameterValue::Set(members) => Some(members.as_slice()),
-        _ => None,
+        ParameterValue::Set(members) => members.as_slice(),
+        _ => &[],
     }
 }
 
 /// The upstream of that name.
-#[tactic(auto, unfolding(fed_defs::specs::Choices::upstream_named))]
-fn upstream_named<'a>(vhost: &'a VhostConfig, name: &Text) -> Option<&'a UpstreamDef>
-    ensures { option_copied result ≡ choices.upstream_named vhost.now name.now }
+fn upstream_named<'a>(scope: &Scope<'a>, name: &Text) -> Option<&'a UpstreamDef>
+    ensures { option_copied result ≡ choices.upstream_named scope.now.vhost.now name.now }
 {
-    for parameter in vhost.parameters.as_slice() {
-        if let Some(upstream) = upstream_if(name, parameter) {
-            return Some(upstream);
-        }
+    match scope.upstreams.find(name.as_str()) {
+        Some(parameter) => upstream_in(parameter),
+        None => None,
     }
-    None
 }
 
 /// The members of the set of that name; none where there is no such set.
-#[tactic(auto, unfolding(fed_defs::specs::Choices::members_of))]
-fn members_of<'a>(vhost: &'a VhostConfig, name: &Text) -> &'a [SetMember]
-    ensures { result.now ≡ choices.members_of vhost.now name.now }
+fn members_of<'a>(scope: &Scope<'a>, name: &Text) -> &'a [SetMember]
+    ensures { result.now ≡ choices.members_of scope.now.vhost.now name.now }
 {
-    for parameter in vhost.parameters.as_slice() {
-        if let Some(members) = set_if(name, parameter) {
-            return members;
-        }
+    match scope.sets.find(name.as_str()) {
+        Some(parameter) => members_in(parameter),
+        None => &[],
     }
-    &[]
 }
 
 /// A copy of the first text, or of the other where it is absent.
@@ -141,7 +127,7 @@ fn choice_named(
         ≡ choices.choice_named scope.now.config.now scope.now.owner.now scope.now.vhost.now
         member.now name.now) }
 {
-    match upstream_named(scope.vhost, name) {
+    match upstream_named(scope, name) {
         Some(upstream) => Ok(Some(choice(scope, member, name, upstream)?)),
         None => Ok(None),
     }
@@ -183,7 +169,7 @@ fn member_choices(scope: &Scope, set: &Text) -> Result<Vec<Choice>, AllocError>
         ≡ choices.member_choices scope.now.config.now scope.now.owner.now scope.now.vhost.now set.now) }
 {
     let mut list = Vec::new(scope.alloc);
-    for member in members_of(scope.vhost, set) {
+    for member in members_of(scope, set) {
         let choice = choice_named(scope, &member.own, &member.upstream)?;
         if let Some(choice) = choice {
             list.push(choice)?;

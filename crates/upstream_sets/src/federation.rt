@@ -216,7 +216,7 @@ fn keep_exchange_links(
 {
     for choice in choices {
         let link = exchange_link(scope.alloc, scope.owner, exchange, choice)?;
-        kept.keep(link)?;
+        kept.keep(scope.alloc, link)?;
     }
     Ok(())
 }
@@ -236,7 +236,7 @@ fn keep_queue_links(
 {
     for choice in choices {
         let link = queue_link(scope.alloc, scope.owner, queue, choice)?;
-        kept.keep(link)?;
+        kept.keep(scope.alloc, link)?;
     }
     Ok(())
 }

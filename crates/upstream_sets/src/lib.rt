@@ -2,6 +2,8 @@
 #![tactic(auto)]
 
 mod choices;
+#[cfg(test)]
+mod export_tests;
 mod fault;
 mod federation;
 mod kept;
@@ -9,6 +11,7 @@ mod links;
 mod name;
 mod places;
 mod scope;
+mod table;
 #[cfg(test)]
 mod tests;
 

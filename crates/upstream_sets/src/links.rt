@@ -11,6 +11,7 @@ use crate::kept::Kept;
 use crate::name::shovel_name;
 use crate::places::first_place;
 use crate::scope::{Scope, rules_of};
+use crate::table::{Component, table_of};
 use amqp_props::{ExchangeKind, LinkKind, LinkSpec, Place, StartState, Text};
 use fed_defs::{
     BrokerConfig, Config, ExchangeDef, Owner, ParameterDef, ParameterValue, ShovelDef, VhostConfig,
@@ -100,7 +101,7 @@ fn keep_shovel(scope: &Scope, parameter: &ParameterDef, kept: &mut Kept) -> Resu
         &parameter.name,
         shovel,
     )?;
-    kept.keep(link)
+    kept.keep(scope.alloc, link)
 }
 
 /// Keeps the links of the shovels among the parameters.
@@ -204,12 +205,17 @@ fn keep_owned(
 {
     let owner = owner_of(index, broker, vhost)?;
     let rules = rules_of(alloc, vhost)?;
+    let parameters = vhost.parameters.as_slice();
+    let upstreams = table_of(alloc, Component::Upstream, parameters)?;
+    let sets = table_of(alloc, Component::Set, parameters)?;
     let scope = Scope {
         alloc,
         config,
         owner: &owner,
         vhost,
         rules: rules.as_slice(),
+        upstreams,
+        sets,
     };
     keep_vhost(&scope, kept)
 }
@@ -263,5 +269,6 @@ pub fn links_of(alloc: Global, config: &Config) -> Result<Vec<LinkSpec>, LinksFa
 {
     let mut kept = Kept::new(alloc);
     keep_brokers(alloc, config, &mut kept)?;
-    Ok(kept.into_vec())
+    let list = kept.into_vec(alloc)?;
+    Ok(list)
 }

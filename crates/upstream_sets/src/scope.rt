@@ -4,8 +4,11 @@ ghost use Rattle.std.specs.List.{list_any};
 ghost use Rattle.std.specs.Option.{option_copied};
 ghost use Rattle.policy_core.specs.Policies.{policy_of};
 ghost use Rattle.fed_defs.specs.Policies.{rule_of, policy_in};
+ghost use Rattle.upstream_sets.specs.declared.table.Component.TheVariants as component;
 ghost use Rattle.upstream_sets.specs.Fitting.{has_one_key, could_choose};
+ghost use Rattle.upstream_sets.specs.Tables.{IsTableOf, IsTableOf-prop};
 
+use crate::table::{Component, ParameterTable};
 use fed_defs::{Config, Owner, PolicyDef, VhostConfig};
 use policy_core::{ObjectKind, PolicyText, choose};
 use std::alloc::{AllocError, Global};
@@ -23,7 +26,13 @@ pub(crate) struct Scope<'a> {
     pub(crate) vhost: &'a VhostConfig,
     /// What decides between its policies, in their order.
     pub(crate) rules: &'a [PolicyText],
+    /// Its upstreams under their names.
+    pub(crate) upstreams: ParameterTable<'a>,
+    /// Its sets of upstreams under their names.
+    pub(crate) sets: ParameterTable<'a>,
     ghost ruled: { map policy_of rules.now ≡ map rule_of vhost.now.policies },
+    ghost tabled: { IsTableOf component.Upstream upstreams vhost.now.parameters } by { IsTableOf-prop component.Upstream upstreams vhost.now.parameters },
+    ghost tabled_sets: { IsTableOf component.Set sets vhost.now.parameters } by { IsTableOf-prop component.Set sets vhost.now.parameters },
 }
 
 /// What decides between a policy and others.

@@ -359,7 +359,7 @@ fn show(link: &LinkSpec, out: &mut String) -> Result<(), AllocError> {
 }
 
 /// The links, a line each.
-fn shown(alloc: Global, links: &[LinkSpec]) -> Result<String, Fail> {
+pub(crate) fn shown(alloc: Global, links: &[LinkSpec]) -> Result<String, Fail> {
     let mut out = String::new(alloc);
     for link in links {
         show(link, &mut out)?;
