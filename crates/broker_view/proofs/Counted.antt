@@ -196,12 +196,16 @@ grown l J p (Purged place queue) v n same suits h = maybe (same_place place p) (
 grown l J p (Closed place connection) v n same suits h = maybe (same_place place p) (disconnected connection v) v n (above-freed connection 0 v.clients n v.queues h) h
 grown l J p _ v n same suits h = still n v.queues h
 
+-- no copy has a number beyond the count after one entry more
+pub fresh-step : (J : List Entry) (e : Entry) → ((c : ℕ) → copy_count J < c → publication_of c J ≡ None) → Suits J e → (c : ℕ) → copy_count (J ++ e ∷ []) < c → publication_of c (J ++ e ∷ []) ≡ None
+fresh-step J e known suits c far =
+    let beyond-all : copy_count J + copies_made e < c = subst (λ k. k < c) (count-push J e) far in
+    publication-skip c J (e ∷ []) (known c (omega (arith, beyond-all))) ∙ alone c (copy_count J) J e refl suits beyond-all
+
 -- the numbers of copies are below the next one after each entry
 pub counted-step : (n : ℕ) (J : List Entry) (p : Place) (e : Entry) (v : VhostState) → IsCounted J v → Suits J e → IsCounted (J ++ e ∷ []) (recorded n p e v)
 counted-step n J p e v h suits = record {
-  known = λ c far.
-      let beyond-all : copy_count J + copies_made e < c = subst (λ k. k < c) (count-push J e) far in
-      publication-skip c J (e ∷ []) (h.known c (omega (arith, beyond-all))) ∙ alone c (copy_count J) J e refl suits beyond-all;
+  known = fresh-step J e h.known suits;
   above =
       raise (copy_count J + 1 + copies_made e) (copy_count (J ++ e ∷ []) + 1) (recorded n p e v).queues (omega (arith, count-push J e)) (grown n J p e v (copy_count J + 1) refl suits h.above);
 }

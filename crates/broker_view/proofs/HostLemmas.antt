@@ -10,10 +10,13 @@ use Rattle.fed_journal.specs.declared.place.Place.{Place}
 use Rattle.fed_journal.specs.declared.entry.Entry.{Entry}
 use Rattle.fed_journal.specs.Names.{same_text}
 use Rattle.fed_journal.specs.Configuration.{is_broker, is_place}
+use Rattle.mini_broker.specs.declared.account.Account.{Account}
 use Rattle.mini_broker.specs.State.{VhostState}
 use Rattle.broker_view.specs.declared.host.Host.{Host}
-use Rattle.broker_view.specs.Hosts.{place_of, recorded_at, AreViews}
+use Rattle.broker_view.specs.Confirms.{HasConfirms}
+use Rattle.broker_view.specs.Hosts.{place_of, followed_at, told_at, AreViews, IsRecordable}
 use Rattle.broker_view.specs.Recorded.{recorded}
+use Rattle.broker_view.specs.Told.{told}
 use Rattle.broker_view.specs.View.{IsView}
 use Rattle.broker_view.proofs.Names.{same_text-true}
 
@@ -55,6 +58,21 @@ view-place J hosts p host views slash is =
     subst (λ b. IsView J (record { broker = b; vhost = p.vhost }) host.vhost) (same_text-true host.broker p.broker f.name)
     (subst (λ v. IsView J (record { broker = host.broker; vhost = v }) host.vhost) (sym (same_text-true p.vhost (codes "/") slash)) f.holds)
 
+-- what is owed at the place
+pub owed-place : (J : List Entry) (hosts : List Host) (p : Place) (host : Host) → AreViews J hosts → same_text p.vhost (codes "/") ≡ true → Some host ≡ find (λ (h : Host). same_text h.broker p.broker) hosts → HasConfirms J p host.confirms
+owed-place J hosts p host views slash is =
+    let f : IsFound p.broker (λ (h : Host). HasConfirms J (place_of h.broker) h.confirms) host = found-all p.broker (λ (h : Host). HasConfirms J (place_of h.broker) h.confirms) hosts host views.confirms (sym is) in
+    subst (λ b. HasConfirms J (record { broker = b; vhost = p.vhost }) host.confirms) (same_text-true host.broker p.broker f.name)
+    (subst (λ v. HasConfirms J (record { broker = host.broker; vhost = v }) host.confirms) (sym (same_text-true p.vhost (codes "/") slash)) f.holds)
+
 -- what is recorded of a host
-pub recorded-as : (link : ℕ) (e d : Entry) (host : Host) (v : VhostState) → e ≡ d → v ≡ recorded link (place_of host.broker) d host.vhost → record host { vhost = v } ≡ recorded_at link e host
+pub recorded-as : (link : ℕ) (e d : Entry) (host : Host) (v : VhostState) → e ≡ d → v ≡ recorded link (place_of host.broker) d host.vhost → record host { vhost = v } ≡ followed_at link e host
 recorded-as link e d host v is k = λ i. record host { vhost = (k ∙ ap (λ x. recorded link (place_of host.broker) x host.vhost) (sym is)) i }
+
+-- what the confirms that are owed become
+pub told-as : (e d : Entry) (host : Host) (accounts : List Account) → e ≡ d → accounts ≡ told (place_of host.broker) d host.vhost host.confirms → record host { confirms = accounts } ≡ told_at e host
+told-as e d host accounts is k = λ i. record host { confirms = (k ∙ ap (λ x. told (place_of host.broker) x host.vhost host.confirms) (sym is)) i }
+
+-- what stands at the host doesn't depend on what it owes
+pub told-recordable : (host : Host) (e : Entry) → IsRecordable host e → IsRecordable (told_at e host) e
+told-recordable host e r = record { journal = r.journal; view = r.view; suits = r.suits }

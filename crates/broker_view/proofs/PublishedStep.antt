@@ -27,11 +27,12 @@ use Rattle.broker_view.proofs.HeldHome.{held-step}
 -- ---- homes
 
 -- the numbers of a publication's copies are new
-new-first : (n first k : ℕ) (qs : List (List ℕ)) → first ≡ first_of (n + 1) qs → k < length qs → n < first + k
+pub new-first : (n first k : ℕ) (qs : List (List ℕ)) → first ≡ first_of (n + 1) qs → k < length qs → n < first + k
 new-first n first k [] e h = absurd (omega (arith, h))
 new-first n first k (q ∷ qs) e h = omega (arith, e)
 
-copy-at : (x : Publication) (k : ℕ) → k < length x.queues → is_copy_of x (x.first + k) ≡ true
+-- they are the publication's
+pub copy-at : (x : Publication) (k : ℕ) → k < length x.queues → is_copy_of x (x.first + k) ≡ true
 copy-at x k h = and_from (nat_le x.first (x.first + k)) (nat_lt (x.first + k - x.first) (length x.queues)) (le-leb x.first (x.first + k) (omega arith)) (lt-ltb (x.first + k - x.first) (length x.queues) (omega (arith, h)))
 
 -- the copy that enters the queue is new, and at home there

@@ -13,7 +13,7 @@ use Rattle.mini_broker.specs.Queues.{ready_in, AreAbove}
 use Rattle.mini_broker.specs.Record.{with_handed}
 use Rattle.mini_broker.specs.State.{VhostState}
 use Rattle.broker_view.specs.declared.host.Host.{Host}
-use Rattle.broker_view.specs.Hosts.{place_of, recorded_at, IsRecordable}
+use Rattle.broker_view.specs.Hosts.{place_of, followed_at, IsRecordable}
 use Rattle.broker_view.specs.Suits.{Suits}
 use Rattle.broker_view.proofs.Names.{same_place-true}
 use Rattle.broker_view.proofs.Questions.{first_ready-is}
@@ -25,7 +25,7 @@ ready-at host e r place client tag queue copy no_ack is here =
     first_ready-is r.journal (place_of host.broker) host.vhost queue r.view.copies
     ∙ ap (λ p. first_ready r.journal p queue) (sym (same_place-true place (place_of host.broker) here)) ∙ suits
 
-pub handed-as : (link : ℕ) (e : Entry) (host : Host) (v : VhostState) (place : Place) (client : Client) (tag queue : List ℕ) (copy : ℕ) (no_ack : Bool) → Delivered place client tag queue copy no_ack ≡ e → same_place place (place_of host.broker) ≡ true → v ≡ with_handed client tag queue copy no_ack host.vhost → record host { vhost = v } ≡ recorded_at link e host
+pub handed-as : (link : ℕ) (e : Entry) (host : Host) (v : VhostState) (place : Place) (client : Client) (tag queue : List ℕ) (copy : ℕ) (no_ack : Bool) → Delivered place client tag queue copy no_ack ≡ e → same_place place (place_of host.broker) ≡ true → v ≡ with_handed client tag queue copy no_ack host.vhost → record host { vhost = v } ≡ followed_at link e host
 handed-as link e host v place client tag queue copy no_ack is here k =
     recorded-as link e (Delivered place client tag queue copy no_ack) host v (sym is) (k ∙ sym (ap (λ b. cond b (with_handed client tag queue copy no_ack host.vhost) host.vhost) here))
 

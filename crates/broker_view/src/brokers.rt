@@ -5,13 +5,13 @@ ghost use Rattle.std.specs.List.{list_any};
 ghost use Rattle.fed_journal.specs.Names.{same_text};
 ghost use Rattle.fed_journal.specs.Copies.{IsFitting};
 ghost use Rattle.broker_view.specs.Suits.{EachSuits};
-ghost use Rattle.broker_view.specs.Hosts.{recorded_at, with_host as hosts_with, AreViews, IsRecordable, IsNext, LeadsOn};
+ghost use Rattle.broker_view.specs.Hosts.{recorded_at, with_host as hosts_with, AreViews, IsRecordable, IsTellable, IsNext, LeadsOn};
 
 use crate::host::{Host, record};
 use crate::run::Run;
 use amqp_props::Text;
 use fed_journal::entry::Entry;
-use mini_broker::Vhost;
+use mini_broker::{Confirms, Vhost};
 use std::alloc::{AllocError, Global};
 
 /// The virtual hosts of the brokers, and the links in the order in which they first took a copy.
@@ -42,6 +42,7 @@ fn add_host(alloc: Global, hosts: &mut Vec<Host>, broker: &Text) -> Result<(), A
     hosts.push(Host {
         broker: broker.clone()?,
         vhost: Vhost::new(alloc)?,
+        confirms: Confirms::new(alloc),
     })?;
     Ok(())
 }
@@ -73,13 +74,19 @@ fn link_number(links: &mut Vec<Text>, entry: &Entry) -> Result<u32, AllocError> 
 /// # Errors
 ///
 /// For want of memory.
-fn record_each(hosts: &mut Vec<Host>, link: u32, entry: &Entry) -> Result<(), AllocError>
+fn record_each(
+    alloc: Global,
+    hosts: &mut Vec<Host>,
+    link: u32,
+    entry: &Entry,
+) -> Result<(), AllocError>
     requires recordable { All (λ host. IsRecordable host entry.now) hosts.old.items }
+    requires tellable { All (λ host. IsTellable host entry.now) hosts.old.items }
     requires fits { IsFitting entry.now }
     ensures { OnOk result (hosts.new.items ≡ map (recorded_at link entry.now) hosts.old.items) }
 {
     for host in hosts.iter_mut() {
-        record(host, link, entry)?;
+        record(alloc, host, link, entry)?;
     }
     Ok(())
 }
@@ -101,7 +108,7 @@ fn record_entry(
 {
     match entry {
         Entry::Begun { broker, .. } => add_host(alloc, hosts, broker)?,
-        _ => record_each(hosts, link, entry)?,
+        _ => record_each(alloc, hosts, link, entry)?,
     }
     Ok(())
 }

@@ -5,14 +5,15 @@ ghost use Rattle.fed_journal.specs.declared.entry.Entry.TheVariants.{Published};
 ghost use Rattle.fed_journal.specs.Copies.{IsFitting};
 ghost use Rattle.fed_journal.specs.Names.{same_place};
 ghost use Rattle.broker_view.specs.Recorded.{session_holder, is_making, is_consuming, is_moving};
-ghost use Rattle.broker_view.specs.Hosts.{place_of, recorded_at, entered_at, IsRecordable};
+ghost use Rattle.broker_view.specs.Hosts.{place_of, recorded_at, followed_at, entered_at, IsRecordable, IsTellable};
 
+use crate::tell::tell;
 use amqp_props::Text;
 use fed_journal::entry::{Entry, Publication};
 use fed_journal::place::Place;
-use mini_broker::Vhost;
+use mini_broker::{Confirms, Vhost};
 use queue_core::Holder;
-use std::alloc::AllocError;
+use std::alloc::{AllocError, Global};
 
 /// A broker of the run with its virtual host `/`.
 #[derive(Drop)]
@@ -21,10 +22,12 @@ pub struct Host {
     pub broker: Text,
     /// What stands there.
     pub vhost: Vhost,
+    /// The confirms that it owes to sessions of links.
+    pub confirms: Confirms,
 }
 
 /// Whether the place is the host's.
-fn is_at(host: &Host, place: &Place) -> bool
+pub fn is_at(host: &Host, place: &Place) -> bool
     ensures { result ≡ same_place place.now (place_of host.now.broker) }
 {
     place.broker == host.broker && place.vhost.as_str() == "/"
@@ -48,7 +51,7 @@ fn session_holder(link: u32, session: u32) -> Holder
 /// For want of memory.
 fn record_made(host: &mut Host, link: u32, entry: &Entry) -> Result<(), AllocError>
     requires { IsRecordable host.old entry.now }
-    ensures { IsTrue (is_making entry.now) → OnOk result (host.new ≡ recorded_at link entry.now host.old) }
+    ensures { IsTrue (is_making entry.now) → OnOk result (host.new ≡ followed_at link entry.now host.old) }
 {
     match entry {
         Entry::MadeQueue {
@@ -107,7 +110,7 @@ fn enter(host: &mut Host, publication: &Publication) -> Result<(), AllocError>
 fn record_moved(host: &mut Host, link: u32, entry: &Entry) -> Result<(), AllocError>
     requires recordable { IsRecordable host.old entry.now }
     requires fits { IsFitting entry.now }
-    ensures { IsTrue (is_moving entry.now) → OnOk result (host.new ≡ recorded_at link entry.now host.old) }
+    ensures { IsTrue (is_moving entry.now) → OnOk result (host.new ≡ followed_at link entry.now host.old) }
 {
     match entry {
         Entry::Published(publication) if is_at(host, &publication.place) => {
@@ -136,7 +139,7 @@ fn record_moved(host: &mut Host, link: u32, entry: &Entry) -> Result<(), AllocEr
 /// For want of memory.
 fn record_consumed(host: &mut Host, link: u32, entry: &Entry) -> Result<(), AllocError>
     requires { IsRecordable host.old entry.now }
-    ensures { IsTrue (is_consuming entry.now) → OnOk result (host.new ≡ recorded_at link entry.now host.old) }
+    ensures { IsTrue (is_consuming entry.now) → OnOk result (host.new ≡ followed_at link entry.now host.old) }
 {
     match entry {
         Entry::Consumed {
@@ -172,15 +175,15 @@ fn record_consumed(host: &mut Host, link: u32, entry: &Entry) -> Result<(), Allo
     Ok(())
 }
 
-/// Does to the host what an entry of the journal records of its place.
+/// Does to the virtual host what an entry of the journal records of its place.
 ///
 /// # Errors
 ///
 /// For want of memory.
-pub fn record(host: &mut Host, link: u32, entry: &Entry) -> Result<(), AllocError>
+fn follow(host: &mut Host, link: u32, entry: &Entry) -> Result<(), AllocError>
     requires recordable { IsRecordable host.old entry.now }
     requires fits { IsFitting entry.now }
-    ensures { OnOk result (host.new ≡ recorded_at link entry.now host.old) }
+    ensures { OnOk result (host.new ≡ followed_at link entry.now host.old) }
 {
     match entry {
         Entry::Consumed { .. }
@@ -194,5 +197,22 @@ pub fn record(host: &mut Host, link: u32, entry: &Entry) -> Result<(), AllocErro
         | Entry::Unbound { .. } => record_made(host, link, entry)?,
         _ => record_moved(host, link, entry)?,
     }
+    Ok(())
+}
+
+/// Does to the host what an entry of the journal records of its place, to what stands there and to the confirms that
+/// are owed.
+///
+/// # Errors
+///
+/// For want of memory.
+pub fn record(alloc: Global, host: &mut Host, link: u32, entry: &Entry) -> Result<(), AllocError>
+    requires recordable { IsRecordable host.old entry.now }
+    requires tellable { IsTellable host.old entry.now }
+    requires fits { IsFitting entry.now }
+    ensures { OnOk result (host.new ≡ recorded_at link entry.now host.old) }
+{
+    tell(alloc, host, entry)?;
+    follow(host, link, entry)?;
     Ok(())
 }

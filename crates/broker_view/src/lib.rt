@@ -4,5 +4,6 @@
 pub mod brokers;
 pub mod host;
 pub mod run;
+pub mod tell;
 #[cfg(test)]
 mod tests;

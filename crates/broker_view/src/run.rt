@@ -1,6 +1,6 @@
 //! A run so far: the entries of its journal, and the virtual hosts that they lead to, which answer for them.
 
-ghost use Rattle.std.specs.Prelude.{◌≡◌, ◌≤◌, true, is_some, find, length, codes, IfOk, IfSome};
+ghost use Rattle.std.specs.Prelude.{◌≡◌, ◌==◌, ◌≤◌, true, not, is_some, find, length, codes, IfOk, IfSome};
 ghost use Rattle.std.specs.Option.{option_copied, option_map};
 ghost use Rattle.fed_journal.specs.declared.journal.TheConstants.{MAX_ENTRIES};
 ghost use Rattle.fed_journal.specs.Names.{same_text};
@@ -8,6 +8,9 @@ ghost use Rattle.fed_journal.specs.Configuration.{is_broker as is_broker_of, is_
 ghost use Rattle.fed_journal.specs.Routes.{is_bound as is_binding_bound, routes as routes_of};
 ghost use Rattle.fed_journal.specs.Holds.{first_ready as first_ready_of, ready_count as count_of_ready, is_held_by as is_copy_held_by};
 ghost use Rattle.fed_journal.specs.Consumers as journal;
+ghost use Rattle.fed_journal.specs.Copies.{is_secured};
+ghost use Rattle.fed_journal.specs.Flight.{flight_published};
+ghost use Rattle.broker_view.specs.Confirms.{HasConfirms, HasPublications, ArePublishedAt};
 ghost use Rattle.broker_view.specs.View.{IsView};
 ghost use Rattle.broker_view.specs.Asked.{asked_by};
 ghost use Rattle.broker_view.specs.Hosts.{AreViews};
@@ -95,16 +98,29 @@ impl<'a> Run<'a> {
         find_host(self.hosts, broker).is_some()
     }
 
-    /// The virtual host of the place; None exactly where the place isn't one of the run.
+    /// The host of the place; None exactly where the place isn't one of the run.
     #[tactic(auto, unfolding(fed_journal::specs::Configuration::is_place))]
-    fn vhost(&self, place: &Place) -> Option<&'a Vhost>
+    fn host(&self, place: &Place) -> Option<&'a Host>
         ensures known { is_some result ≡ is_place_of self.now place.now }
-        ensures view { IfSome result (λ vhost. IsView self.now place.now vhost.now) }
+        ensures view { IfSome result (λ host. IsView self.now place.now host.now.vhost) }
+        ensures confirms { IfSome result (λ host. HasConfirms self.now place.now host.now.confirms) }
+        ensures published { IfSome result (λ host. HasPublications self.now) }
     {
         if !is_slash(&place.vhost) {
             return None;
         }
         match find_host(self.hosts, &place.broker) {
+            Some(host) => Some(host),
+            None => None,
+        }
+    }
+
+    /// The virtual host of the place; None exactly where the place isn't one of the run.
+    fn vhost(&self, place: &Place) -> Option<&'a Vhost>
+        ensures known { is_some result ≡ is_place_of self.now place.now }
+        ensures view { IfSome result (λ vhost. IsView self.now place.now vhost.now) }
+    {
+        match self.host(place) {
             Some(host) => Some(&host.vhost),
             None => None,
         }
@@ -273,5 +289,27 @@ impl<'a> Run<'a> {
             Some(vhost) => vhost.holds(client, copy),
             None => false,
         }
+    }
+
+    /// Whether the session, which published at the place alone, awaits the confirm of any publication.
+    pub fn is_awaited(&self, place: &Place, link: &Text, session: u32) -> bool
+        requires place { is_place_of self.now place.now ≡ true }
+        requires there { ArePublishedAt self.now place.now link.now session }
+        ensures { result ≡ not (length (flight_published self.now link.now session) == 0) }
+    {
+        match self.host(place) {
+            Some(host) => host.confirms.is_awaited(link, session),
+            None => false,
+        }
+    }
+
+    /// The first publication that is secured, of those of which the session awaits the confirms. It published at the
+    /// place alone.
+    pub fn first_secured(&self, place: &Place, link: &Text, session: u32) -> Option<u64>
+        requires place { is_place_of self.now place.now ≡ true }
+        requires there { ArePublishedAt self.now place.now link.now session }
+        ensures { result ≡ find (is_secured self.now) (flight_published self.now link.now session) }
+    {
+        self.host(place)?.confirms.next_ready(link, session)
     }
 }

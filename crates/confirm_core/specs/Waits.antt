@@ -25,6 +25,10 @@ without_wait copy publication = record publication { waits = filter (λ wait. no
 abbrev pub released : ℕ → List Unconfirmed → List Unconfirmed
 released copy ledger = map (without_wait copy) ledger
 
+-- No publication waits for anything once all copies are stored (RabbitMQ, Confirms: When Will Published Messages Be Confirmed by the Broker?).
+abbrev pub all_stored : List Unconfirmed → List Unconfirmed
+all_stored ledger = map (λ (publication : Unconfirmed). record publication { waits = [] }) ledger
+
 -- The ledger without the publication that was answered (RabbitMQ, Confirms: Publisher Confirms).
 abbrev pub without : ℕ → List Unconfirmed → List Unconfirmed
 without number ledger = filter (λ publication. not (publication.number == number)) ledger

@@ -1,6 +1,6 @@
-ghost use Rattle.std.specs.Prelude.{◌≡◌, false, [], ◌∷◌, ◌++◌, Some, OnOk, OnErr, min};
+ghost use Rattle.std.specs.Prelude.{◌≡◌, false, [], ◌∷◌, ◌++◌, Some, OnOk, OnErr, min, length, ◌==◌};
 ghost use Rattle.std.specs.Option.{option_map_or};
-ghost use Rattle.confirm_core.specs.Waits.{is_open, released, without, ready_numbers, least};
+ghost use Rattle.confirm_core.specs.Waits.{is_open, released, all_stored, without, ready_numbers, least};
 
 use crate::publication::Publication;
 use std::alloc::{AllocError, Global};
@@ -55,11 +55,25 @@ impl Ledger {
         release_all(&mut self.publications, copy);
     }
 
+    /// Every copy was stored, so no publication waits for anything.
+    pub fn flushed(&mut self)
+        ensures { self.new ≡ all_stored self.old }
+    {
+        forget_all(&mut self.publications);
+    }
+
     /// The copy left its queue in another way than loss, so no publication waits for it any more.
     pub fn left(&mut self, copy: u64)
         ensures { self.new ≡ released copy self.old }
     {
         release_all(&mut self.publications, copy);
+    }
+
+    /// Whether no publication is open.
+    pub fn is_empty(&self) -> bool
+        ensures { result ≡ (length self.now == 0) }
+    {
+        self.publications.is_empty()
     }
 
     /// The least number that waits for nothing; None exactly where there is none.
@@ -117,6 +131,15 @@ fn release_all(publications: &mut Vec<Publication>, copy: u64)
     }
 }
 
+/// Takes every copy from what each publication waits for.
+fn forget_all(publications: &mut Vec<Publication>)
+    ensures { publications.new.items ≡ all_stored publications.old.items }
+{
+    for publication in publications.iter_mut() {
+        publication.forget();
+    }
+}
+
 /// Removes the publication with the number.
 fn remove(publications: &mut Vec<Publication>, number: u64)
     ensures { publications.new.items ≡ without number publications.old.items }
@@ -154,6 +177,21 @@ mod tests {
         assert_eq!(rt; ledger.next_ready(), None);
         ledger.stored(1);
         assert_eq!(rt; ledger.next_ready(), Some(1));
+        Ok(())
+    }
+
+    /// A flush stores the copies that every publication waits for.
+    #[test]
+    fn flush(rt: HostRuntime) -> Result<(), Fail> {
+        let mut ledger = Ledger::new(rt.alloc());
+        assert!(rt; ledger.is_empty());
+        ledger.open(1, &[1])?;
+        ledger.open(2, &[2, 3])?;
+        assert_eq!(rt; ledger.next_ready(), None);
+        ledger.flushed();
+        assert!(rt; ledger.answered(1));
+        assert_eq!(rt; ledger.next_ready(), Some(2));
+        assert!(rt; !ledger.is_empty());
         Ok(())
     }
 }

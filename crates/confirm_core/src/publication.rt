@@ -1,4 +1,4 @@
-ghost use Rattle.std.specs.Prelude.{◌≡◌, ◌==◌, not, filter, IfOk};
+ghost use Rattle.std.specs.Prelude.{◌≡◌, ◌==◌, [], not, filter, IfOk};
 ghost use Rattle.confirm_core.specs.Waits.{waits_for_nothing, without_wait};
 
 use std::alloc::{AllocError, Global};
@@ -49,6 +49,13 @@ impl Publication {
         ensures { self.new ≡ without_wait copy self.old }
     {
         remove(&mut self.waits, copy);
+    }
+
+    /// Waits for nothing any more.
+    pub fn forget(&mut self)
+        ensures { self.new ≡ record self.old { waits = [] } }
+    {
+        self.waits.clear();
     }
 }
 

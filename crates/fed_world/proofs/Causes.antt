@@ -22,7 +22,7 @@ use Rattle.fed_journal.specs.Outgoing.{outgoing}
 use Rattle.fed_world.proofs.LastOpened.{WasOpened}
 use Rattle.fed_world.specs.Kept.{StandsAfter, IsPublishedFor}
 
--- the copy was sent on by the session, and the message is what its link publishes for it
+-- the copy was sent on by the session, and what its link publishes for it is published where the link publishes
 pub record PublishesCopy (K : List Entry) (x : Publication) (l : List ℕ) (s c : ℕ) : Type 0 where
   pub before : List Entry
   pub spec : LinkSpec
@@ -31,6 +31,7 @@ pub record PublishesCopy (K : List Entry) (x : Publication) (l : List ℕ) (s c 
   pub described : link_of K l ≡ Some spec
   pub of_copy : publication_of c K ≡ Some source
   pub message : x.message ≡ outgoing spec source.message
+  pub target : spec.target ≡ Some x.place
 
 -- a publication of the copy by the session was confirmed
 pub record WasConfirmed (K : List Entry) (l : List ℕ) (s c : ℕ) : Type 0 where

@@ -23,3 +23,4 @@ pub mod Spares
 pub mod Stages
 pub mod Standings
 pub mod Stored
+pub mod Targets

@@ -64,7 +64,7 @@ shared-each K (e ∷ es) p q caused h =
 
 -- ---- which queue is meant
 
-same_place-refl : (p : Place) → same_place p p ≡ true
+pub same_place-refl : (p : Place) → same_place p p ≡ true
 same_place-refl p = and_from (same_text p.broker p.broker) (same_text p.vhost p.vhost) (same_text-refl p.broker) (same_text-refl p.vhost)
 
 pub is_queue-refl : (p : Place) (q : List ℕ) → is_queue p q p q ≡ true

@@ -132,16 +132,16 @@ named : (J : List Entry) (l : List ℕ) (spec : LinkSpec) → link_of J l ≡ So
 unfolding link_of
 named J l spec h = same_text-true spec.name l (find-in (is_named l) spec (links_of J) h).0
 
-accepted-caused : (J : List Entry) (spec : LinkSpec) (c : ℕ) (target : Option Place) (x : Option Publication) → link_of J spec.name ≡ Some spec → (before : List Entry) × StandsAfter before (Sent spec.name (session J spec.name) c) J → publication_of c J ≡ x → RowHas (EachCaused J) (accepted J spec c target x)
-accepted-caused J spec c (Some target) (Some y) d sent e =
-    ((record { before = sent.0; spec = spec; source = y; sent = sent.1; described = d; of_copy = e; message = refl }, refl), tt)
-accepted-caused J spec c (Some target) None d sent e = tt
-accepted-caused J spec c None x d sent e = tt
+accepted-caused : (J : List Entry) (spec : LinkSpec) (c : ℕ) (target : Option Place) (x : Option Publication) → link_of J spec.name ≡ Some spec → (before : List Entry) × StandsAfter before (Sent spec.name (session J spec.name) c) J → spec.target ≡ target → publication_of c J ≡ x → RowHas (EachCaused J) (accepted J spec c target x)
+accepted-caused J spec c (Some target) (Some y) d sent t e =
+    ((record { before = sent.0; spec = spec; source = y; sent = sent.1; described = d; of_copy = e; message = refl; target = t }, refl), tt)
+accepted-caused J spec c (Some target) None d sent t e = tt
+accepted-caused J spec c None x d sent t e = tt
 
 accept_first-caused : (J : List Entry) (spec : LinkSpec) (o : Option ℕ) → link_of J spec.name ≡ Some spec → oldest (flight_sent J spec.name (session J spec.name)) ≡ o → RowHas (EachCaused J) (accept_first J spec o)
 accept_first-caused J spec None d h = tt
 accept_first-caused J spec (Some c) d h =
-    accepted-caused J spec c spec.target (publication_of c J) d (accept-cause J spec.name (session J spec.name) c h) refl
+    accepted-caused J spec c spec.target (publication_of c J) d (accept-cause J spec.name (session J spec.name) c h) refl refl
 
 accept_spec-caused : (J : List Entry) (l : List ℕ) (spec : LinkSpec) → link_of J l ≡ Some spec → RowHas (EachCaused J) (accept_first J spec (oldest (flight_sent J l (session J l))))
 accept_spec-caused J l spec d =

@@ -55,6 +55,7 @@ use Rattle.fed_world.specs.Step.{next}
 use Rattle.fed_world.specs.Fits as fits
 use Rattle.fed_world.specs.Run.{begin, begun}
 use Rattle.fed_world.proofs.Causes.{EachCaused}
+use Rattle.fed_world.proofs.Lists.{find-in}
 use Rattle.fed_world.proofs.OwnedQueues.{close-suits}
 use Rattle.fed_world.proofs.RowHas.{RowHas, either-has, if_not-has, at_place-has, with_link-has, while_open-has, one_or_empty-has, unless_refused-has, unless_known_refused-has}
 use Rattle.fed_world.proofs.RowCaused.{not_there, target-missing, target-fresh, take-cause, answer-held}
@@ -96,10 +97,10 @@ unfolding unbind_row
 unbind_row-suits J p client b =
     at_place-has (EachSuits J) J p _ (unless_refused-has (EachSuits J) (bind_refusal J p client b) _ (either-has (EachSuits J) (is_bound J p b) _ (Ok []) (tt, tt) tt))
 
--- the first copy of a publication has the next number
+-- a publication and the first of its copies have the next numbers
 publication-suits : (J : List Entry) (p : Place) (by : Publisher) (m : Message) (queues : List (List ℕ)) → queues ≡ routes J p m → Suits J (Published (publication J p by m queues))
-publication-suits J p by m [] e = (refl, e)
-publication-suits J p by m (q ∷ qs) e = (refl, e)
+publication-suits J p by m [] e = (refl, e, refl)
+publication-suits J p by m (q ∷ qs) e = (refl, e, refl)
 
 -- whoever publishes
 published-suits : (J : List Entry) (p : Place) (by : Publisher) (m : Message) → Suits J (published J p by m)
@@ -224,13 +225,14 @@ unfolding accept_row
 accept_row-suits J l =
     with_link-has (EachSuits J) J l _ (λ spec d. while_open-has (EachSuits J) J l _ (accept_first-suits J spec (oldest (flight_sent J l (session J l)))))
 
-confirmed-suits : (J : List Entry) (l : List ℕ) (s : ℕ) (p : Option ℕ) → RowSuits J (confirmed l s p)
-confirmed-suits J l s None = tt
-confirmed-suits J l s (Some p) = (tt, tt)
+-- what is found is secured
+confirmed-suits : (J : List Entry) (l : List ℕ) (s : ℕ) (ps : List ℕ) (o : Option ℕ) → find (is_secured J) ps ≡ o → RowSuits J (confirmed l s o)
+confirmed-suits J l s ps None e = tt
+confirmed-suits J l s ps (Some p) e = ((find-in (is_secured J) p ps e).0, tt)
 
 confirm_first-suits : (J : List Entry) (l : List ℕ) (s : ℕ) (ps : List ℕ) → RowSuits J (confirm_first J l s ps)
 confirm_first-suits J l s [] = tt
-confirm_first-suits J l s (p ∷ ps) = confirmed-suits J l s (find (is_secured J) (p ∷ ps))
+confirm_first-suits J l s (p ∷ ps) = confirmed-suits J l s (p ∷ ps) (find (is_secured J) (p ∷ ps)) refl
 
 confirm_row-suits : (J : List Entry) (l : List ℕ) → RowSuits J (confirm_row J l)
 unfolding confirm_row

@@ -125,6 +125,7 @@ fn consuming_row(alloc: Global, run: &Run<'_>, event: &Event) -> Result<Row, All
 /// The row of an event: what it appends, or why it doesn't happen now.
 fn next(alloc: Global, run: &Run<'_>, numbers: Numbers, event: &Event) -> Result<Row, AllocError>
     requires sound { IsSound run.now }
+    requires reached { IsReached run.now }
     requires publication { numbers.publication ≡ publication_count run.now + 1 }
     requires copy { numbers.copy ≡ copy_count run.now + 1 }
     ensures { IfOk result (λ row. row_of row ≡ next run.now event.now) }

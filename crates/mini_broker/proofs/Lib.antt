@@ -1,3 +1,4 @@
+mod ConfirmLemmas
 mod MailLemmas
 mod QueueLemmas
 pub mod NameLemmas

@@ -14,4 +14,5 @@ pub mod Deliver
 pub mod Settle
 pub mod Publish
 pub mod Close
+pub mod Confirms
 pub mod Record

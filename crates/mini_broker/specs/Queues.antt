@@ -4,6 +4,7 @@ use Rattle.std.specs.List.{list_any}
 use Rattle.std.specs.Option.{option_and_then, option_map_or}
 use Rattle.std.specs.Map.{lookup}
 use Rattle.std.specs.Str.{bytes_eq}
+use Rattle.queue_core.specs.declared.rows.Row.{Row}
 use Rattle.queue_core.specs.Rows as rows
 use Rattle.mini_broker.specs.declared.standing.StandingQueue.{StandingQueue}
 use Rattle.mini_broker.specs.declared.mailbox.CopyMessage.{CopyMessage}
@@ -15,6 +16,10 @@ Named = List ℕ × StandingQueue
 
 abbrev pub queue_of : List ℕ → List Named → Option StandingQueue
 queue_of name queues = lookup (bytes_eq name) queues
+
+-- the copies of the queue
+abbrev pub rows_of : List ℕ → List Named → List Row
+rows_of name queues = option_map_or (λ queue. queue.mail.rows) (queue_of name queues) []
 
 -- one queue is changed
 abbrev pub changed : List ℕ → (StandingQueue → StandingQueue) → List Named → List Named

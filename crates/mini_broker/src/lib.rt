@@ -1,9 +1,11 @@
 //! The broker that clients use: queues, exchanges, bindings, consumers and messages of a virtual host.
 #![tactic(auto)]
 
+mod account;
 mod bind;
 mod clients;
 mod close;
+mod confirms;
 mod consume;
 mod consumer;
 mod declare;
@@ -20,7 +22,9 @@ mod shared;
 mod standing;
 mod vhost;
 
+pub use account::Account;
 pub use clients::Clients;
+pub use confirms::Confirms;
 pub use consumer::Consumer;
 pub use deliver::Delivered;
 pub use exchanges::Exchanges;

@@ -6,7 +6,7 @@ ghost use Rattle.queue_core.specs.Rows.{IsAbove, first_ready, is_ready, is_held_
 ghost use Rattle.mini_broker.specs.Mail.{empty, entered, fresh, handed, given, left, released, released_from, purged, stored, as_seen, copy_of, first_copy, swept, is_held_at as is_held_by_client};
 
 use crate::shared::Shared;
-use queue_core::{CopyNo, Holder, Queue};
+use queue_core::{CopyNo, Holder, Queue, Row};
 use std::alloc::{AllocError, Global};
 use std::marker::Model;
 
@@ -85,6 +85,13 @@ impl Mailbox {
             queue: Queue::new(alloc),
             copies: Vec::new(alloc),
         }
+    }
+
+    /// The copies that are there, by rising number.
+    pub fn rows(&self) -> &[Row]
+        ensures { result.now ≡ self.now.rows }
+    {
+        self.queue.rows()
     }
 
     /// Lets a copy enter at the tail.

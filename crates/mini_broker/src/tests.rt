@@ -4,7 +4,7 @@ ghost use Rattle.mini_broker.specs.Queues.{AreAbove};
 use super::*;
 use amqp_props::{ExchangeKind, Message, Octets, Properties, QueueOptions, Text};
 use field_tables::Table;
-use queue_core::Holder;
+use queue_core::{Hold, Holder, Row};
 use route_core::Sort;
 use std::alloc::{AllocError, Global};
 use std::test::Fail;
@@ -191,7 +191,54 @@ fn taken(rt: HostRuntime) -> Result<(), Fail> {
     let mut vhost = published(rt.alloc())?;
     vhost.take(1, SESSION);
     assert!(rt; vhost.held_count("q", SESSION) == 1);
+    assert!(rt; vhost.rows("q").len() == 1);
     vhost.settle(1);
     assert!(rt; vhost.copies("q") == 0);
+    Ok(())
+}
+
+/// A publication waits for its two copies, of which one leaves and one is stored; that of another session waits on.
+#[test]
+fn confirmed(rt: HostRuntime) -> Result<(), Fail> {
+    let alloc = rt.alloc();
+    let feed = Text::from_str(alloc, "feed")?;
+    let mut confirms = Confirms::new(alloc);
+    confirms.open(&feed, 1, 1, &[1, 2])?;
+    assert!(rt; confirms.is_awaited(&feed, 1));
+    confirms.left(2);
+    assert!(rt; confirms.next_ready(&feed, 1).is_none());
+    confirms.flushed();
+    confirms.open(&feed, 2, 2, &[3])?;
+    assert!(rt; confirms.next_ready(&feed, 1) == Some(1));
+    assert!(rt; confirms.next_ready(&feed, 2).is_none());
+    confirms.answered(&feed, 1, 1);
+    assert!(rt; !confirms.is_awaited(&feed, 1));
+    assert!(rt; confirms.is_awaited(&feed, 2));
+    Ok(())
+}
+
+/// What leaves a queue is awaited no more; a purge leaves what is held, for which the publication waits.
+#[test]
+fn rows_leave(rt: HostRuntime) -> Result<(), Fail> {
+    let alloc = rt.alloc();
+    let feed = Text::from_str(alloc, "feed")?;
+    let rows = [
+        Row {
+            copy: 1,
+            hold: Hold::Ready,
+            stored: false,
+        },
+        Row {
+            copy: 2,
+            hold: Hold::Held(SESSION),
+            stored: false,
+        },
+    ];
+    let mut confirms = Confirms::new(alloc);
+    confirms.open(&feed, 1, 1, &[1, 2])?;
+    confirms.ready_left(&rows);
+    assert!(rt; confirms.next_ready(&feed, 1).is_none());
+    confirms.rows_left(&rows);
+    assert!(rt; confirms.next_ready(&feed, 1) == Some(1));
     Ok(())
 }

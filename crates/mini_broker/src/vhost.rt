@@ -3,7 +3,7 @@
 ghost use Rattle.std.specs.Prelude.{◌≡◌, IfOk};
 ghost use Rattle.std.specs.Option.{option_map, option_and_then};
 ghost use Rattle.route_core.specs.Bindings.{has_binding as is_bound};
-ghost use Rattle.mini_broker.specs.Queues.{queue_of, ready_in, ready_count, copy_count};
+ghost use Rattle.mini_broker.specs.Queues.{queue_of, rows_of, ready_in, ready_count, copy_count};
 ghost use Rattle.mini_broker.specs.Deliver.{held_count as count_of_held};
 ghost use Rattle.mini_broker.specs.Settle.{holds as client_holds};
 ghost use Rattle.mini_broker.specs.Exchanges.{shape_of};
@@ -16,7 +16,7 @@ use crate::exchanges::Exchanges;
 use crate::queues::Queues;
 use amqp_props::QueueOptions;
 use fed_journal::place::{Client, ExchangeShape};
-use queue_core::{CopyNo, Holder};
+use queue_core::{CopyNo, Holder, Row};
 use route_core::{Binding, Router};
 use std::alloc::{AllocError, Global};
 use std::marker::Model;
@@ -139,6 +139,16 @@ impl Vhost {
         match self.queues.find(name) {
             Some(queue) => queue.mail.first_ready(),
             None => None,
+        }
+    }
+
+    /// The copies that are in the queue, by rising number; none where there is no queue of that name.
+    pub fn rows(&self, name: &str) -> &[Row]
+        ensures { result.now ≡ rows_of name.now self.now.queues }
+    {
+        match self.queues.find(name) {
+            Some(queue) => queue.mail.rows(),
+            None => &[],
         }
     }
 

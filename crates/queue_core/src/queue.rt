@@ -33,6 +33,13 @@ impl Queue {
         }
     }
 
+    /// The copies that are there, by rising number.
+    pub fn rows(&self) -> &[Row]
+        ensures { result.now ≡ self.now }
+    {
+        self.rows.as_slice()
+    }
+
     /// Lets a copy enter at the tail, ready and not stored.
     ///
     /// # Errors

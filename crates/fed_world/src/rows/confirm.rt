@@ -1,46 +1,37 @@
 //! The target confirms a publication once it is secured.
-ghost use Rattle.std.specs.Prelude.{◌≡◌, All, IfOk, find};
-ghost use Rattle.fed_journal.specs.Copies.{IsFitting, is_secured};
+ghost use Rattle.std.specs.Prelude.{◌≡◌, true, IfOk};
+ghost use Rattle.broker_view.specs.Confirms.{ArePublishedAt};
+ghost use Rattle.fed_journal.specs.Configuration.{is_place};
+ghost use Rattle.fed_journal.specs.Flight.{flight_published};
 ghost use Rattle.fed_world.specs.RowOf.{row_of};
+ghost use Rattle.fed_world.specs.Run.{IsReached};
 ghost use Rattle.fed_world.specs.Confirm.{confirm_row, confirm_first};
 
 use crate::reason::Reason;
-use crate::row::{Row, one};
+use crate::row::{Row, link_of, one};
 use amqp_props::Text;
 use broker_view::run::Run;
 use fed_journal::entry::Entry;
-use journal_scan::copies::is_secured;
-use journal_scan::flight::flight_published;
-use journal_scan::links::link_of;
+use fed_journal::place::Place;
 use journal_scan::phases::{is_open, session};
 use std::alloc::{AllocError, Global};
 
-/// The first of the publications that is secured.
-fn first_secured(run: &Run<'_>, publications: &[u64]) -> Option<u64>
-    requires { All IsFitting run.now }
-    ensures { result ≡ find (is_secured run.now) publications.now }
-{
-    publications
-        .iter()
-        .copied()
-        .find(|publication| is_secured(run.entries(), *publication))
-}
-
-/// The confirm of the first of the publications that is secured, if one waits.
+/// The confirm of the first of the session's publications at the target that is secured, if one waits.
 fn confirm_first(
     alloc: Global,
     run: &Run<'_>,
+    target: &Place,
     link: &Text,
     session: u32,
-    publications: &[u64],
 ) -> Result<Row, AllocError>
-    requires { All IsFitting run.now }
-    ensures { IfOk result (λ row. row_of row ≡ confirm_first run.now link.now session publications.now) }
+    requires place { is_place run.now target.now ≡ true }
+    requires there { ArePublishedAt run.now target.now link.now session }
+    ensures { IfOk result (λ row. row_of row ≡ confirm_first run.now link.now session (flight_published run.now link.now session)) }
 {
-    if publications.is_empty() {
+    if !run.is_awaited(target, link, session) {
         return Ok(Err(Reason::Empty));
     }
-    match first_secured(run, publications) {
+    match run.first_secured(target, link, session) {
         Some(publication) => {
             let link = link.clone()?;
             one(
@@ -59,16 +50,18 @@ fn confirm_first(
 /// The row of `confirm`.
 #[tactic(auto, unfolding(crate::specs::Confirm::confirm_row))]
 pub fn confirm_row(alloc: Global, run: &Run<'_>, link: &Text) -> Result<Row, AllocError>
-    requires { All IsFitting run.now }
+    requires { IsReached run.now }
     ensures { IfOk result (λ row. row_of row ≡ confirm_row run.now link.now) }
 {
-    if link_of(alloc, run.entries(), link)?.is_none() {
+    let Some(spec) = link_of(alloc, run, link)? else {
         return Ok(Err(Reason::NoLink));
-    }
+    };
     if !is_open(run.entries(), link) {
         return Ok(Err(Reason::NotOpen));
     }
+    let Some(target) = &spec.target else {
+        return Ok(Err(Reason::Empty));
+    };
     let session = session(run.entries(), link);
-    let publications = flight_published(alloc, run.entries(), link, session)?;
-    confirm_first(alloc, run, link, session, &publications)
+    confirm_first(alloc, run, target, link, session)
 }

@@ -1,7 +1,7 @@
 use Rattle.std.proofs.Common.{[], ◌∷◌, ◌++◌, sym, subst}
 use Rattle.broker_view.specs.Hosts.{AreViews}
 use Rattle.broker_view.specs.Suits.{Suits}
-use Rattle.broker_view.proofs.ViewsStep.{begun-step, recorded-step, not-begun}
+use Rattle.broker_view.proofs.ViewsStep.{begun-step, recorded-step, not-begun, all-recordable, all-tellable}
 use Rattle.broker_view.proofs.brokers.record_entry.Goals as goal
 
 pub returns-in_ok-add_host-in-Begun : goal.returns-in_ok-add_host-in-Begun
@@ -11,3 +11,10 @@ returns-in_ok-add_host-in-Begun c = λ J views suits.
 
 pub returns-in_ok-record_each-in_default : goal.returns-in_ok-record_each-in_default
 returns-in_ok-record_each-in_default c = recorded-step c.args.link c.args.entry.now c.args.hosts.now.items c.record_each.new.hosts.items (not-begun c.args.entry.now c.in_default.not-Begun) c.in_ok-record_each-in_default.ensures
+
+pub record_each-requires : goal.record_each-requires
+record_each-requires c = record {
+  recordable = all-recordable c.args.hosts.now.items c.args.entry.now c.requires.next;
+  tellable = all-tellable c.args.hosts.now.items c.args.entry.now c.requires.next;
+  fits = c.requires.fits;
+}
