@@ -36,11 +36,11 @@ def seconds(program, path):
     return best
 
 
-def main():
+def main(schedule=schedule, sizes=SIZES):
     top = os.path.join(os.path.dirname(os.path.abspath(__file__)), "..")
     program = sys.argv[1] if len(sys.argv) > 1 else os.path.join(top, "crates/fedrun/out/fedrun")
     before = None
-    for events in SIZES:
+    for events in sizes:
         with tempfile.NamedTemporaryFile("w", suffix=".schedule") as file:
             file.write(schedule(events))
             file.flush()
