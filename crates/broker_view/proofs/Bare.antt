@@ -11,6 +11,7 @@ use Rattle.fed_journal.specs.Routes.{site}
 use Rattle.fed_journal.specs.Holders as holders
 use Rattle.fed_journal.specs.Copies.{Standing, Unknown, Held, publication_of, entered, standing, copy_count}
 use Rattle.fed_journal.specs.Consumers as journal
+use Rattle.amqp_props.specs.declared.message.Message.{Message}
 use Rattle.mini_broker.specs.Vhosts.{bare}
 use Rattle.mini_broker.specs.Queues.{Named, IsLast}
 use Rattle.mini_broker.proofs.NameLemmas.{bare_routed}
@@ -54,7 +55,7 @@ first-copies p = record {
 
 first-counted : IsCounted [] bare
 unfolding publication_of
-first-counted = record { known = λ c h. refl; above = All-nil (λ (q : Named). IsLast (copy_count [] + 1) q.1) }
+first-counted = record { known = λ c h. refl; above = All-nil (λ (q : Named Message). IsLast (copy_count [] + 1) q.1) }
 
 first-view : (p : Place) → IsView [] p bare
 first-view p = record { configured = first-configured p; consuming = first-consuming p; copies = first-copies p; counted = first-counted }

@@ -21,11 +21,11 @@ use Rattle.fed_journal.specs.declared.entry.Entry.TheVariants.{MadeQueue, MadeEx
 use Rattle.fed_journal.specs.Names.{same_text, same_place}
 use Rattle.fed_journal.specs.Configuration.{queue_options, options_step, queue_owner, owner_step, queues_of, queues_step, exchange_shape, shape_step, predeclared_shape}
 use Rattle.fed_journal.specs.Routes.{Site, site, site_of, site_step, first_site, made, gone, bound, unbound, has_ends}
+use Rattle.amqp_props.specs.declared.message.Message.{Message}
 use Rattle.mini_broker.specs.declared.consumer.Consumer.{Consumer}
 use Rattle.mini_broker.specs.declared.mailbox.Sweep.TheVariants as sweeps
-use Rattle.mini_broker.specs.declared.standing.StandingQueue.{StandingQueue}
 use Rattle.mini_broker.specs.Mail.{swept, purged, handed, left, released, given}
-use Rattle.mini_broker.specs.Queues.{Named, queue_of, changed, all_changed, with_mail}
+use Rattle.mini_broker.specs.Queues.{Standing, Named, queue_of, changed, all_changed, with_mail}
 use Rattle.mini_broker.specs.Exchanges.{NamedShape, shape_of, declared_shape}
 use Rattle.mini_broker.specs.State.{VhostState, AreRouted}
 use Rattle.mini_broker.specs.Declare.{with_queue, with_exchange, made_queue}
@@ -76,8 +76,8 @@ record Known : Type 0 where
   site : Site
 
 record Stands (v : VhostState) (k : Known) : Type 0 where
-  has_options : (q : List ℕ) → option_map (λ (x : StandingQueue). x.options) (queue_of q v.queues) ≡ k.options q
-  has_owner : (q : List ℕ) → option_and_then (λ (x : StandingQueue). x.owner) (queue_of q v.queues) ≡ k.owner q
+  has_options : (q : List ℕ) → option_map (λ (x : Standing Message). x.options) (queue_of q v.queues) ≡ k.options q
+  has_owner : (q : List ℕ) → option_and_then (λ (x : Standing Message). x.owner) (queue_of q v.queues) ≡ k.owner q
   has_names : map (λ q. q.0) v.queues ≡ k.names
   distinct : AreDistinct (map (λ q. q.0) v.queues)
   has_shape : (x : List ℕ) → shape_of x v.exchanges ≡ k.shape x
@@ -123,11 +123,11 @@ after J p e v h = record {
 
 -- ---- what changes copies and consumers alone
 
-abbrev state : VhostState → List Named → List Client → List Consumer → ℕ → VhostState
+abbrev state : VhostState → List (Named Message) → List Client → List Consumer → ℕ → VhostState
 state v queues clients consumers begun =
     record { routing = v.routing; queues = queues; exchanges = v.exchanges; clients = clients; consumers = consumers; made = v.made; begun = begun }
 
-change-at : (b : Bool) (v : VhostState) (k : Known) (queues : List Named) (clients : List Client) (consumers : List Consumer) (begun : ℕ) → plain queues ≡ plain v.queues → Stands v k → Stands (if b then state v queues clients consumers begun else v) k
+change-at : (b : Bool) (v : VhostState) (k : Known) (queues : List (Named Message)) (clients : List Client) (consumers : List Consumer) (begun : ℕ) → plain queues ≡ plain v.queues → Stands v k → Stands (if b then state v queues clients consumers begun else v) k
 change-at false v k queues clients consumers begun same h = h
 change-at true v k queues clients consumers begun same h = record {
   has_options = λ q. same-options v.queues queues same q ∙ h.has_options q;
@@ -160,7 +160,7 @@ with_made b queue options owner k = record {
 }
 
 -- what is found under a name once a queue is made
-found-by : {A : Type 0} (f : Option StandingQueue → Option A) (queues : List Named) (queue q : List ℕ) (new : StandingQueue) (was : Option A) (c : Bool) → same_text queue q ≡ c → queue_of queue queues ≡ None → f (queue_of q queues) ≡ was → f (queue_of q (queues ++ (queue, new) ∷ [])) ≡ (if c then f (Some new) else was)
+found-by : {A : Type 0} (f : Option (Standing Message) → Option A) (queues : List (Named Message)) (queue q : List ℕ) (new : Standing Message) (was : Option A) (c : Bool) → same_text queue q ≡ c → queue_of queue queues ≡ None → f (queue_of q queues) ≡ was → f (queue_of q (queues ++ (queue, new) ∷ [])) ≡ (if c then f (Some new) else was)
 found-by f queues queue q new was true on none h =
     ap f (lookup-new q queues queue new (same_text-sym q queue ∙ on) (subst (λ n. queue_of n queues ≡ None) (same_text-true queue q on) none))
 found-by f queues queue q new was false off none h = ap f (lookup-other q queues queue new (same_text-sym q queue ∙ off)) ∙ h
@@ -168,13 +168,13 @@ found-by f queues queue q new was false off none h = ap f (lookup-other q queues
 made-at : (b : Bool) (v : VhostState) (k : Known) (queue : List ℕ) (options : QueueOptions) (owner : Option ℕ) → Stands v k → (b ≡ true → k.options queue ≡ None) → Stands (if b then with_queue queue options owner v else v) (with_made b queue options owner k)
 made-at false v k queue options owner h free = h
 made-at true v k queue options owner h free =
-    let new : StandingQueue = made_queue v.made options owner in
-    let none : queue_of queue v.queues ≡ None = none-from (λ (x : StandingQueue). x.options) (queue_of queue v.queues) (h.has_options queue ∙ free refl) in
+    let new : Standing Message = made_queue v.made options owner in
+    let none : queue_of queue v.queues ≡ None = none-from (λ (x : Standing Message). x.options) (queue_of queue v.queues) (h.has_options queue ∙ free refl) in
     record {
-      has_options = λ q. found-by (option_map (λ (x : StandingQueue). x.options)) v.queues queue q new (k.options q) (same_text queue q) refl none (h.has_options q);
-      has_owner = λ q. found-by (option_and_then (λ (x : StandingQueue). x.owner)) v.queues queue q new (k.owner q) (same_text queue q) refl none (h.has_owner q);
-      has_names = map-push (λ (q : Named). q.0) v.queues (queue, new) ∙ ap (λ ns. ns ++ queue ∷ []) h.has_names;
-      distinct = subst AreDistinct (sym (map-push (λ (q : Named). q.0) v.queues (queue, new))) (distinct-push (map (λ q. q.0) v.queues) queue h.distinct (absent-any queue v.queues none));
+      has_options = λ q. found-by (option_map (λ (x : Standing Message). x.options)) v.queues queue q new (k.options q) (same_text queue q) refl none (h.has_options q);
+      has_owner = λ q. found-by (option_and_then (λ (x : Standing Message). x.owner)) v.queues queue q new (k.owner q) (same_text queue q) refl none (h.has_owner q);
+      has_names = map-push (λ (q : Named Message). q.0) v.queues (queue, new) ∙ ap (λ ns. ns ++ queue ∷ []) h.has_names;
+      distinct = subst AreDistinct (sym (map-push (λ (q : Named Message). q.0) v.queues (queue, new))) (distinct-push (map (λ q. q.0) v.queues) queue h.distinct (absent-any queue v.queues none));
       has_shape = h.has_shape;
       routing = made-free queue (nodes.Queue v.made) v.routing k.site.routing h.routing (free-queue v.routing v.queues v.exchanges v.made queue h.routed none) ∙ ap (λ n. made queue (nodes.Queue n) k.site.routing) h.made;
       made = ap (λ n. n + 1) h.made;
@@ -222,11 +222,11 @@ with_gone b queue k = record {
   site = if b then site_of (gone queue k.site.routing) k.site.queues else k.site;
 }
 
-gone-by : {A : Type 0} (f : Option StandingQueue → Option A) (found : Option StandingQueue) (was : Option A) (c : Bool) → f None ≡ None → f found ≡ was → f (cond (not c) found None) ≡ (if c then None else was)
+gone-by : {A : Type 0} (f : Option (Standing Message) → Option A) (found : Option (Standing Message)) (was : Option A) (c : Bool) → f None ≡ None → f found ≡ was → f (cond (not c) found None) ≡ (if c then None else was)
 gone-by f found was true none h = none
 gone-by f found was false none h = h
 
-lost-by : {A : Type 0} (f : Option StandingQueue → Option A) (queues : List Named) (queue q : List ℕ) (was : Option A) → f None ≡ None → f (queue_of q queues) ≡ was → f (queue_of q (filter (λ x. not (bytes_eq x.0 queue)) queues)) ≡ (if same_text queue q then None else was)
+lost-by : {A : Type 0} (f : Option (Standing Message) → Option A) (queues : List (Named Message)) (queue q : List ℕ) (was : Option A) → f None ≡ None → f (queue_of q queues) ≡ was → f (queue_of q (filter (λ x. not (bytes_eq x.0 queue)) queues)) ≡ (if same_text queue q then None else was)
 lost-by f queues queue q was none h =
     ap f (lookup-without q queue queues)
     ∙ ap (λ c. f (cond (not c) (queue_of q queues) None)) (same_text-sym q queue)
@@ -242,10 +242,10 @@ gone-is queue r ends =
 gone-at : (b : Bool) (v : VhostState) (k : Known) (queue : List ℕ) → Stands v k → HaveEnds k.site.routing → Stands (if b then without_queue queue v else v) (with_gone b queue k)
 gone-at false v k queue h ends = h
 gone-at true v k queue h ends =
-    let names : map (λ (q : Named). q.0) (filter (λ q. not (bytes_eq q.0 queue)) v.queues) ≡ filter (λ n. not (same_text n queue)) (map (λ q. q.0) v.queues) = names-filter (λ n. not (bytes_eq n queue)) v.queues in
+    let names : map (λ (q : Named Message). q.0) (filter (λ q. not (bytes_eq q.0 queue)) v.queues) ≡ filter (λ n. not (same_text n queue)) (map (λ q. q.0) v.queues) = names-filter (λ n. not (bytes_eq n queue)) v.queues in
     record {
-      has_options = λ q. lost-by (option_map (λ (x : StandingQueue). x.options)) v.queues queue q (k.options q) refl (h.has_options q);
-      has_owner = λ q. lost-by (option_and_then (λ (x : StandingQueue). x.owner)) v.queues queue q (k.owner q) refl (h.has_owner q);
+      has_options = λ q. lost-by (option_map (λ (x : Standing Message). x.options)) v.queues queue q (k.options q) refl (h.has_options q);
+      has_owner = λ q. lost-by (option_and_then (λ (x : Standing Message). x.owner)) v.queues queue q (k.owner q) refl (h.has_owner q);
       has_names = names ∙ ap (filter (λ n. not (same_text n queue))) h.has_names;
       distinct = subst AreDistinct (sym names) (distinct-filter (λ n. not (same_text n queue)) (map (λ q. q.0) v.queues) h.distinct);
       has_shape = h.has_shape;
@@ -265,7 +265,7 @@ with_site b routing k = record {
   site = if b then site_of routing k.site.queues else k.site;
 }
 
-routed-objects : (r now : Routing) (queues : List Named) (exchanges : List NamedShape) (number : ℕ) → now.objects ≡ r.objects → AreRouted r queues exchanges number → AreRouted now queues exchanges number
+routed-objects : (r now : Routing) (queues : List (Named Message)) (exchanges : List NamedShape) (number : ℕ) → now.objects ≡ r.objects → AreRouted r queues exchanges number → AreRouted now queues exchanges number
 routed-objects r now queues exchanges number same h = record {
   queue_names = λ name. ap (has sorts.Queue name) same ∙ h.queue_names name;
   exchange_names = λ name. ap (has sorts.Exchange name) same ∙ h.exchange_names name;

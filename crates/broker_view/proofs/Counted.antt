@@ -21,9 +21,8 @@ use Rattle.fed_journal.specs.Copies.{copy_count, copies_made, is_copy_of, public
 use Rattle.fed_journal.specs.Routes.{bound, unbound}
 use Rattle.mini_broker.specs.declared.mailbox.CopyMessage.{CopyMessage}
 use Rattle.mini_broker.specs.declared.mailbox.Sweep.TheVariants as sweeps
-use Rattle.mini_broker.specs.declared.standing.StandingQueue.{StandingQueue}
 use Rattle.mini_broker.specs.Mail.{Mail, entered, fresh, as_seen, handed, left, given, released, released_from, purged, swept}
-use Rattle.mini_broker.specs.Queues.{Named, changed, all_changed, with_mail, IsLast, AreAbove}
+use Rattle.mini_broker.specs.Queues.{Standing, Named, changed, all_changed, with_mail, IsLast, AreAbove}
 use Rattle.mini_broker.specs.State.{VhostState}
 use Rattle.mini_broker.specs.Declare.{with_queue, with_exchange, made_queue}
 use Rattle.mini_broker.specs.Bind.{with_routing}
@@ -71,16 +70,16 @@ alone c n J _ same suits far = refl
 
 -- ---- changes of a queue's copies
 
-abbrev KeepsLast : (Mail → Mail) → Type 0
-KeepsLast f = (m : ℕ) (queue : StandingQueue) → IsLast m queue → IsLast m (with_mail f queue)
+abbrev KeepsLast : (Mail Message → Mail Message) → Type 0
+KeepsLast f = (m : ℕ) (queue : Standing Message) → IsLast m queue → IsLast m (with_mail f queue)
 
 last-handed : (copy : ℕ) (holder : Holder) → KeepsLast (handed copy holder)
 last-handed copy holder m queue h =
-    (All-map (λ (row : Row). row.copy < m) (rows.with_hold copy (holds.Held holder)) queue.mail.rows h.0, All-map (λ (k : CopyMessage). k.number < m) (as_seen copy) queue.mail.copies h.1)
+    (All-map (λ (row : Row). row.copy < m) (rows.with_hold copy (holds.Held holder)) queue.mail.rows h.0, All-map (λ (k : CopyMessage Message). k.number < m) (as_seen copy) queue.mail.copies h.1)
 
 last-left : (copy : ℕ) → KeepsLast (left copy)
 last-left copy m queue h =
-    (All-filter (λ (row : Row). not (row.copy == copy)) (λ (row : Row). row.copy < m) queue.mail.rows h.0, All-filter (λ (k : CopyMessage). not (k.number == copy)) (λ (k : CopyMessage). k.number < m) queue.mail.copies h.1)
+    (All-filter (λ (row : Row). not (row.copy == copy)) (λ (row : Row). row.copy < m) queue.mail.rows h.0, All-filter (λ (k : CopyMessage Message). not (k.number == copy)) (λ (k : CopyMessage Message). k.number < m) queue.mail.copies h.1)
 
 last-given : (copy : ℕ) (holder : Holder) (no_ack : Bool) → KeepsLast (given copy holder no_ack)
 last-given copy holder true m queue h = last-left copy m queue h
@@ -94,28 +93,28 @@ last-freed client m queue h = (All-map (λ (row : Row). row.copy < m) (λ (row :
 
 last-purged : KeepsLast purged
 last-purged m queue h =
-    (All-filter rows.is_held (λ (row : Row). row.copy < m) queue.mail.rows h.0, All-filter _ (λ (k : CopyMessage). k.number < m) queue.mail.copies h.1)
+    (All-filter rows.is_held (λ (row : Row). row.copy < m) queue.mail.rows h.0, All-filter _ (λ (k : CopyMessage Message). k.number < m) queue.mail.copies h.1)
 
 last-stored : KeepsLast (swept sweeps.Store)
 last-stored m queue h = (All-map (λ (row : Row). row.copy < m) (λ (row : Row). record row { stored = true }) queue.mail.rows h.0, h.1)
 
 -- ---- changes of the queues
 
-above-all : (f : Mail → Mail) (m : ℕ) (queues : List Named) → KeepsLast f → AreAbove m queues → AreAbove m (all_changed (with_mail f) queues)
+above-all : (f : Mail Message → Mail Message) (m : ℕ) (queues : List (Named Message)) → KeepsLast f → AreAbove m queues → AreAbove m (all_changed (with_mail f) queues)
 above-all f m queues keeps h =
-    All-map (λ (q : Named). IsLast m q.1) (λ (q : Named). (q.0, with_mail f q.1)) queues (All-weaker (λ (q : Named). IsLast m q.1) (λ q. IsLast m (with_mail f q.1)) (λ q k. keeps m q.1 k) queues h)
+    All-map (λ (q : Named Message). IsLast m q.1) (λ (q : Named Message). (q.0, with_mail f q.1)) queues (All-weaker (λ (q : Named Message). IsLast m q.1) (λ q. IsLast m (with_mail f q.1)) (λ q k. keeps m q.1 k) queues h)
 
-above-changed : (name : List ℕ) (f : Mail → Mail) (m : ℕ) (queues : List Named) → KeepsLast f → AreAbove m queues → AreAbove m (changed name (with_mail f) queues)
+above-changed : (name : List ℕ) (f : Mail Message → Mail Message) (m : ℕ) (queues : List (Named Message)) → KeepsLast f → AreAbove m queues → AreAbove m (changed name (with_mail f) queues)
 above-changed name f m [] keeps h = h
 above-changed name f m (q ∷ queues) keeps h =
-    let head : IsLast m q.1 = All-head (λ (x : Named). IsLast m x.1) q queues h in
-    let tail : AreAbove m queues = All-tail (λ (x : Named). IsLast m x.1) q queues h in
+    let head : IsLast m q.1 = All-head (λ (x : Named Message). IsLast m x.1) q queues h in
+    let tail : AreAbove m queues = All-tail (λ (x : Named Message). IsLast m x.1) q queues h in
     elim (bytes_eq name q.0) as (λ b. AreAbove m (cond b ((q.0, with_mail f q.1) ∷ queues) (q ∷ changed name (with_mail f) queues))) [
-      | true ↦ All-cons (λ (x : Named). IsLast m x.1) (q.0, with_mail f q.1) queues (keeps m q.1 head) tail
-      | false ↦ All-cons (λ (x : Named). IsLast m x.1) q (changed name (with_mail f) queues) head (above-changed name f m queues keeps tail)
+      | true ↦ All-cons (λ (x : Named Message). IsLast m x.1) (q.0, with_mail f q.1) queues (keeps m q.1 head) tail
+      | false ↦ All-cons (λ (x : Named Message). IsLast m x.1) q (changed name (with_mail f) queues) head (above-changed name f m queues keeps tail)
     ]
 
-above-freed : (connection number : ℕ) (clients : List Client) (m : ℕ) (queues : List Named) → AreAbove m queues → AreAbove m (freed_from connection number clients queues)
+above-freed : (connection number : ℕ) (clients : List Client) (m : ℕ) (queues : List (Named Message)) → AreAbove m queues → AreAbove m (freed_from connection number clients queues)
 above-freed connection number [] m queues h = h
 above-freed connection number (client ∷ clients) m queues h =
     above-freed connection (number + 1) clients m (if client.connection == connection then all_changed (with_mail (released_from number)) queues else queues)
@@ -124,36 +123,36 @@ above-freed connection number (client ∷ clients) m queues h =
       | false ↦ h
     ])
 
-raise-last : (a b : ℕ) (queue : StandingQueue) → a ≤ b → IsLast a queue → IsLast b queue
+raise-last : (a b : ℕ) (queue : Standing Message) → a ≤ b → IsLast a queue → IsLast b queue
 raise-last a b queue le h =
-    (All-weaker (λ (row : Row). row.copy < a) (λ row. row.copy < b) (λ row k. omega (arith, le, k)) queue.mail.rows h.0, All-weaker (λ (k : CopyMessage). k.number < a) (λ k. k.number < b) (λ copy k. omega (arith, le, k)) queue.mail.copies h.1)
+    (All-weaker (λ (row : Row). row.copy < a) (λ row. row.copy < b) (λ row k. omega (arith, le, k)) queue.mail.rows h.0, All-weaker (λ (k : CopyMessage Message). k.number < a) (λ k. k.number < b) (λ copy k. omega (arith, le, k)) queue.mail.copies h.1)
 
-pub raise : (a b : ℕ) (queues : List Named) → a ≤ b → AreAbove a queues → AreAbove b queues
-raise a b queues le h = All-weaker (λ (q : Named). IsLast a q.1) (λ q. IsLast b q.1) (λ q k. raise-last a b q.1 le k) queues h
+pub raise : (a b : ℕ) (queues : List (Named Message)) → a ≤ b → AreAbove a queues → AreAbove b queues
+raise a b queues le h = All-weaker (λ (q : Named Message). IsLast a q.1) (λ q. IsLast b q.1) (λ q k. raise-last a b q.1 le k) queues h
 
-next-entered : (n : ℕ) (m : Message) (queue : StandingQueue) → IsLast n queue → IsLast (n + 1) (with_mail (entered n m) queue)
+next-entered : (n : ℕ) (m : Message) (queue : Standing Message) → IsLast n queue → IsLast (n + 1) (with_mail (entered n m) queue)
 next-entered n m queue h =
     let next : IsLast (n + 1) queue = raise-last n (n + 1) queue (omega arith) h in
-    (All-push (λ (row : Row). row.copy < n + 1) queue.mail.rows (rows.entered n) next.0 (omega arith), All-push (λ (k : CopyMessage). k.number < n + 1) queue.mail.copies (fresh n m) next.1 (omega arith))
+    (All-push (λ (row : Row). row.copy < n + 1) queue.mail.rows (rows.entered n) next.0 (omega arith), All-push (λ (k : CopyMessage Message). k.number < n + 1) queue.mail.copies (fresh n m) next.1 (omega arith))
 
-next-above : (name : List ℕ) (n : ℕ) (m : Message) (queues : List Named) → AreAbove n queues → AreAbove (n + 1) (changed name (with_mail (entered n m)) queues)
-next-above name n m [] h = All-nil (λ (q : Named). IsLast (n + 1) q.1)
+next-above : (name : List ℕ) (n : ℕ) (m : Message) (queues : List (Named Message)) → AreAbove n queues → AreAbove (n + 1) (changed name (with_mail (entered n m)) queues)
+next-above name n m [] h = All-nil (λ (q : Named Message). IsLast (n + 1) q.1)
 next-above name n m (q ∷ queues) h =
-    let head : IsLast n q.1 = All-head (λ (x : Named). IsLast n x.1) q queues h in
-    let tail : AreAbove n queues = All-tail (λ (x : Named). IsLast n x.1) q queues h in
+    let head : IsLast n q.1 = All-head (λ (x : Named Message). IsLast n x.1) q queues h in
+    let tail : AreAbove n queues = All-tail (λ (x : Named Message). IsLast n x.1) q queues h in
     elim (bytes_eq name q.0) as (λ b. AreAbove (n + 1) (cond b ((q.0, with_mail (entered n m) q.1) ∷ queues) (q ∷ changed name (with_mail (entered n m)) queues))) [
-      | true ↦ All-cons (λ (x : Named). IsLast (n + 1) x.1) (q.0, with_mail (entered n m) q.1) queues (next-entered n m q.1 head) (raise n (n + 1) queues (omega arith) tail)
-      | false ↦ All-cons (λ (x : Named). IsLast (n + 1) x.1) q (changed name (with_mail (entered n m)) queues) (raise-last n (n + 1) q.1 (omega arith) head) (next-above name n m queues tail)
+      | true ↦ All-cons (λ (x : Named Message). IsLast (n + 1) x.1) (q.0, with_mail (entered n m) q.1) queues (next-entered n m q.1 head) (raise n (n + 1) queues (omega arith) tail)
+      | false ↦ All-cons (λ (x : Named Message). IsLast (n + 1) x.1) q (changed name (with_mail (entered n m)) queues) (raise-last n (n + 1) q.1 (omega arith) head) (next-above name n m queues tail)
     ]
 
-above-entered : (names : List (List ℕ)) (n : ℕ) (m : Message) (queues : List Named) → AreAbove n queues → AreAbove (n + length names) (all_entered names n m queues)
+above-entered : (names : List (List ℕ)) (n : ℕ) (m : Message) (queues : List (Named Message)) → AreAbove n queues → AreAbove (n + length names) (all_entered names n m queues)
 above-entered [] n m queues h = let none : List (List ℕ) = [] in raise n (n + length none) queues (omega arith) h
 above-entered (name ∷ names) n m queues h =
-    let next : List Named = changed name (with_mail (entered n m)) queues in
+    let next : List (Named Message) = changed name (with_mail (entered n m)) queues in
     raise (n + 1 + length names) (n + length (name ∷ names)) (all_entered names (n + 1) m next) (omega arith) (above-entered names (n + 1) m next (next-above name n m queues h))
 
 -- the copies of a publication have the next numbers
-above-published : (qs : List (List ℕ)) (first n : ℕ) (m : Message) (queues : List Named) → first ≡ first_of n qs → AreAbove n queues → AreAbove (n + length qs) (all_entered qs first m queues)
+above-published : (qs : List (List ℕ)) (first n : ℕ) (m : Message) (queues : List (Named Message)) → first ≡ first_of n qs → AreAbove n queues → AreAbove (n + length qs) (all_entered qs first m queues)
 above-published [] first n m queues e h = let none : List (List ℕ) = [] in raise n (n + length none) queues (omega arith) h
 above-published (q ∷ qs) first n m queues e h =
     subst (λ k. AreAbove (n + length (q ∷ qs)) (all_entered (q ∷ qs) k m queues)) (sym e) (above-entered (q ∷ qs) n m queues h)
@@ -165,7 +164,7 @@ at-place true u v n m le h k = h
 at-place false u v n m le h k = raise n m v.queues le k
 
 -- an entry that is no publication
-still : (n : ℕ) (queues : List Named) → AreAbove n queues → AreAbove (n + 0) queues
+still : (n : ℕ) (queues : List (Named Message)) → AreAbove n queues → AreAbove (n + 0) queues
 still n queues h = raise n (n + 0) queues (omega arith) h
 
 maybe : (b : Bool) (u v : VhostState) (n : ℕ) → AreAbove n u.queues → AreAbove n v.queues → AreAbove (n + 0) (if b then u else v).queues
@@ -175,10 +174,10 @@ grown : (l : ℕ) (J : List Entry) (p : Place) (e : Entry) (v : VhostState) (n :
 grown l J p (Published x) v n same suits h =
     at-place (same_place x.place p) (with_entered x.queues x.first x.message v) v n (n + length x.queues) (omega arith) (above-published x.queues x.first n x.message v.queues (suits.0 ∙ ap (λ k. first_of k x.queues) (sym same)) h) h
 grown l J p (MadeQueue place queue options owner) v n same suits h =
-    maybe (same_place place p) (with_queue queue options owner v) v n (All-push (λ (q : Named). IsLast n q.1) v.queues (queue, made_queue v.made options owner) h (All-nil (λ (row : Row). row.copy < n), All-nil (λ (k : CopyMessage). k.number < n))) h
+    maybe (same_place place p) (with_queue queue options owner v) v n (All-push (λ (q : Named Message). IsLast n q.1) v.queues (queue, made_queue v.made options owner) h (All-nil (λ (row : Row). row.copy < n), All-nil (λ (k : CopyMessage Message). k.number < n))) h
 grown l J p (MadeExchange place exchange shape) v n same suits h = maybe (same_place place p) (with_exchange exchange shape v) v n h h
 grown l J p (GoneQueue place queue) v n same suits h =
-    maybe (same_place place p) (without_queue queue v) v n (All-filter (λ (q : Named). not (bytes_eq q.0 queue)) (λ (q : Named). IsLast n q.1) v.queues h) h
+    maybe (same_place place p) (without_queue queue v) v n (All-filter (λ (q : Named Message). not (bytes_eq q.0 queue)) (λ (q : Named Message). IsLast n q.1) v.queues h) h
 grown l J p (Bound place binding) v n same suits h = maybe (same_place place p) (with_routing (bound binding v.routing) v) v n h h
 grown l J p (Unbound place binding) v n same suits h = maybe (same_place place p) (with_routing (unbound binding v.routing) v) v n h h
 grown l J p (Flushed broker) v n same suits h = maybe (same_text broker p.broker) (all_swept sweeps.Store v) v n (above-all (swept sweeps.Store) n v.queues last-stored h) h

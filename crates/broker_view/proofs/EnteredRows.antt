@@ -9,9 +9,8 @@ use Rattle.queue_core.specs.declared.rows.Row.{Row}
 use Rattle.queue_core.specs.Rows as rows
 use Rattle.std.specs.Str.{bytes_eq}
 use Rattle.fed_journal.specs.Names.{same_text}
-use Rattle.mini_broker.specs.declared.standing.StandingQueue.{StandingQueue}
 use Rattle.mini_broker.specs.Mail.{entered}
-use Rattle.mini_broker.specs.Queues.{Named, queue_of, changed, with_mail}
+use Rattle.mini_broker.specs.Queues.{Standing, Named, queue_of, changed, with_mail}
 use Rattle.mini_broker.specs.Publish.{all_entered}
 use Rattle.broker_view.specs.View.{AreDistinct, rows_in}
 use Rattle.broker_view.proofs.Names.{same_text-true}
@@ -19,7 +18,7 @@ use Rattle.broker_view.proofs.Publications.{or_len-here, or_len-later}
 use Rattle.broker_view.proofs.QueueRows.{changed-rows}
 
 -- no queue comes or goes
-stands_changed : (other name : List ℕ) (change : StandingQueue → StandingQueue) (queues : List Named) → is_some (queue_of other (changed name change queues)) ≡ is_some (queue_of other queues)
+stands_changed : (other name : List ℕ) (change : Standing Message → Standing Message) (queues : List (Named Message)) → is_some (queue_of other (changed name change queues)) ≡ is_some (queue_of other queues)
 stands_changed other name change [] = refl
 stands_changed other name change (q ∷ queues) =
     elim (bytes_eq name q.0) as (λ b. is_some (queue_of other (cond b ((q.0, change q.1) ∷ queues) (q ∷ changed name change queues))) ≡ is_some (queue_of other (q ∷ queues))) [
@@ -74,14 +73,14 @@ one-more q name names n rs true on once =
 one-more q name names n rs false off once =
     ap (λ x. rs ++ x) (shift-by n (position (same_text q) names) ∙ sym (ap (λ o. cons_option (option_map (λ k. rows.entered (n + k)) o) []) (position-next (same_text q) name names off)))
 
-stand-on : (first : List ℕ) (n : ℕ) (m : Message) (queues : List Named) (names : List (List ℕ)) → All (λ name. is_some (queue_of name queues) ≡ true) names → All (λ name. is_some (queue_of name (changed first (with_mail (entered n m)) queues)) ≡ true) names
+stand-on : (first : List ℕ) (n : ℕ) (m : Message) (queues : List (Named Message)) (names : List (List ℕ)) → All (λ name. is_some (queue_of name queues) ≡ true) names → All (λ name. is_some (queue_of name (changed first (with_mail (entered n m)) queues)) ≡ true) names
 stand-on first n m queues [] all = All-nil (λ name. is_some (queue_of name (changed first (with_mail (entered n m)) queues)) ≡ true)
 stand-on first n m queues (name ∷ names) all =
     All-cons (λ name. is_some (queue_of name (changed first (with_mail (entered n m)) queues)) ≡ true) name names
     (stands_changed name first (with_mail (entered n m)) queues ∙ All-head (λ name. is_some (queue_of name queues) ≡ true) name names all)
     (stand-on first n m queues names (All-tail (λ name. is_some (queue_of name queues) ≡ true) name names all))
 
-pub entered-rows : (names : List (List ℕ)) (n : ℕ) (m : Message) (queues : List Named) → AreDistinct names → All (λ name. is_some (queue_of name queues) ≡ true) names → (q : List ℕ) → rows_in q (all_entered names n m queues) ≡ rows_in q queues ++ entering q names n
+pub entered-rows : (names : List (List ℕ)) (n : ℕ) (m : Message) (queues : List (Named Message)) → AreDistinct names → All (λ name. is_some (queue_of name queues) ≡ true) names → (q : List ℕ) → rows_in q (all_entered names n m queues) ≡ rows_in q queues ++ entering q names n
 entered-rows [] n m queues distinct stand q = sym (append-nil (rows_in q queues))
 entered-rows (name ∷ names) n m queues distinct stand q =
     entered-rows names (n + 1) m (changed name (with_mail (entered n m)) queues) distinct.1 (stand-on name n m queues names (All-tail (λ name. is_some (queue_of name queues) ≡ true) name names stand)) q

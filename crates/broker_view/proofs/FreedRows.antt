@@ -8,6 +8,7 @@ use Rattle.queue_core.specs.declared.rows.Hold.TheVariants as holds
 use Rattle.queue_core.specs.declared.rows.Row.{Row}
 use Rattle.queue_core.specs.Rows.{is_of_client, freed_of, released_client}
 use Rattle.fed_journal.specs.declared.place.Client.{Client}
+use Rattle.amqp_props.specs.declared.message.Message.{Message}
 use Rattle.mini_broker.specs.Consumers.{is_client}
 use Rattle.mini_broker.specs.Mail.{released_from}
 use Rattle.mini_broker.specs.Queues.{Named, all_changed, with_mail}
@@ -32,14 +33,14 @@ map-same : (rows : List Row) → rows ≡ map (λ (row : Row). row) rows
 map-same [] = refl
 map-same (row ∷ rows) = ap (λ rs. row ∷ rs) (map-same rows)
 
-freed-by : (n i : ℕ) (client : Client) (clients : List Client) (queues : List Named) (q : List ℕ) (b : Bool) → ((qs : List Named) → rows_in q (freed_from n (i + 1) clients qs) ≡ map (freed_row n (i + 1) clients) (rows_in q qs)) → rows_in q (freed_from n (i + 1) clients (cond b (all_changed (with_mail (released_from i)) queues) queues)) ≡ map (λ (row : Row). record row { hold = freed_hold n (i + 1) clients (cond b (freed_of i row.hold) row.hold) }) (rows_in q queues)
+freed-by : (n i : ℕ) (client : Client) (clients : List Client) (queues : List (Named Message)) (q : List ℕ) (b : Bool) → ((qs : List (Named Message)) → rows_in q (freed_from n (i + 1) clients qs) ≡ map (freed_row n (i + 1) clients) (rows_in q qs)) → rows_in q (freed_from n (i + 1) clients (cond b (all_changed (with_mail (released_from i)) queues) queues)) ≡ map (λ (row : Row). record row { hold = freed_hold n (i + 1) clients (cond b (freed_of i row.hold) row.hold) }) (rows_in q queues)
 freed-by n i client clients queues q true later =
     later (all_changed (with_mail (released_from i)) queues)
     ∙ ap (map (freed_row n (i + 1) clients)) (all-rows (released_from i) (released_client i) (λ x. refl) refl queues q)
     ∙ map-map (freed_row n (i + 1) clients) (λ (row : Row). record row { hold = freed_of i row.hold }) (rows_in q queues)
 freed-by n i client clients queues q false later = later queues
 
-pub freed-rows : (n i : ℕ) (clients : List Client) (queues : List Named) (q : List ℕ) → rows_in q (freed_from n i clients queues) ≡ map (freed_row n i clients) (rows_in q queues)
+pub freed-rows : (n i : ℕ) (clients : List Client) (queues : List (Named Message)) (q : List ℕ) → rows_in q (freed_from n i clients queues) ≡ map (freed_row n i clients) (rows_in q queues)
 freed-rows n i [] queues q = map-same (rows_in q queues)
 freed-rows n i (client ∷ clients) queues q = freed-by n i client clients queues q (client.connection == n) (λ qs. freed-rows n (i + 1) clients qs q)
 

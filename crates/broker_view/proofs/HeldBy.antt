@@ -20,7 +20,8 @@ use Rattle.fed_journal.specs.Holders as holders
 use Rattle.fed_journal.specs.Holders.{same_client, is_client}
 use Rattle.fed_journal.specs.Copies.{Standing, Unknown, Ready, Held, Left, is_left, entered, standing}
 use Rattle.fed_journal.specs.Holds.{holder, holder_in, is_held_by, is_client_of}
-use Rattle.mini_broker.specs.declared.standing.StandingQueue.{StandingQueue}
+use Rattle.amqp_props.specs.declared.message.Message.{Message}
+use Rattle.mini_broker.specs.Queues.{Standing as QueueOf}
 use Rattle.mini_broker.specs.Consumers as consumers
 use Rattle.mini_broker.specs.Mail.{Mail, is_held_at}
 use Rattle.mini_broker.specs.Queues.{Named, queue_of, is_held_in}
@@ -66,17 +67,17 @@ found-row J p v (d ∷ cs) rs c m any there = elim (matches-cases J p v rs d cs 
 -- ---- from the journal to the queues
 
 -- the queue in which it is found is one of those that stand
-any-by : (test : Mail → Bool) (e : Named) (queues : List Named) (s : StandingQueue) (o : Option StandingQueue) (b : Bool) → cond b (Some e.1) o ≡ Some s → test s.mail ≡ true → (o ≡ Some s → list_any (λ (x : Named). test x.1.mail) queues ≡ true) → (test e.1.mail || list_any (λ (x : Named). test x.1.mail) queues) ≡ true
-any-by test e queues s o true is h later = or_left (test e.1.mail) (list_any (λ (x : Named). test x.1.mail) queues) (ap (λ (x : StandingQueue). test x.mail) (same_Some e.1 s is) ∙ h)
-any-by test e queues s o false is h later = or_right (test e.1.mail) (list_any (λ (x : Named). test x.1.mail) queues) (later is)
+any-by : (test : Mail Message → Bool) (e : Named Message) (queues : List (Named Message)) (s : QueueOf Message) (o : Option (QueueOf Message)) (b : Bool) → cond b (Some e.1) o ≡ Some s → test s.mail ≡ true → (o ≡ Some s → list_any (λ (x : Named Message). test x.1.mail) queues ≡ true) → (test e.1.mail || list_any (λ (x : Named Message). test x.1.mail) queues) ≡ true
+any-by test e queues s o true is h later = or_left (test e.1.mail) (list_any (λ (x : Named Message). test x.1.mail) queues) (ap (λ (x : QueueOf Message). test x.mail) (same_Some e.1 s is) ∙ h)
+any-by test e queues s o false is h later = or_right (test e.1.mail) (list_any (λ (x : Named Message). test x.1.mail) queues) (later is)
 
-any-queue : (test : Mail → Bool) (q : List ℕ) (queues : List Named) (s : StandingQueue) → queue_of q queues ≡ Some s → test s.mail ≡ true → list_any (λ (x : Named). test x.1.mail) queues ≡ true
+any-queue : (test : Mail Message → Bool) (q : List ℕ) (queues : List (Named Message)) (s : QueueOf Message) → queue_of q queues ≡ Some s → test s.mail ≡ true → list_any (λ (x : Named Message). test x.1.mail) queues ≡ true
 any-queue test q [] s is h = absurd (none-some s is)
 any-queue test q (e ∷ queues) s is h = any-by test e queues s (queue_of q queues) (bytes_eq q e.0) is h (λ k. any-queue test q queues s k h)
 
-queue-by : (test : List Row → Bool) (q : List ℕ) (queues : List Named) (o : Option StandingQueue) → queue_of q queues ≡ o → test (option_map_or (λ (s : StandingQueue). s.mail.rows) o []) ≡ true → test [] ≡ false → list_any (λ (x : Named). test x.1.mail.rows) queues ≡ true
+queue-by : (test : List Row → Bool) (q : List ℕ) (queues : List (Named Message)) (o : Option (QueueOf Message)) → queue_of q queues ≡ o → test (option_map_or (λ (s : QueueOf Message). s.mail.rows) o []) ≡ true → test [] ≡ false → list_any (λ (x : Named Message). test x.1.mail.rows) queues ≡ true
 queue-by test q queues None is h none = absurd (true≢false (sym h ∙ none))
-queue-by test q queues (Some s) is h none = any-queue (λ (m : Mail). test m.rows) q queues s is h
+queue-by test q queues (Some s) is h none = any-queue (λ (m : Mail Message). test m.rows) q queues s is h
 
 abbrev held_at : ℕ → ℕ → List Row → Bool
 held_at n c rs = option_map_or (rows.is_of_client n) (rows.holder_of c rs) false
@@ -143,7 +144,7 @@ journal-held J p v k c has h =
 -- ---- from the queues to the journal
 
 -- the queue of that name is found
-found-head : (e : Named) (queues : List Named) → queue_of e.0 (e ∷ queues) ≡ Some e.1
+found-head : (e : Named Message) (queues : List (Named Message)) → queue_of e.0 (e ∷ queues) ≡ Some e.1
 found-head e queues = ap (λ b. cond b (Some e.1) (queue_of e.0 queues)) (same_text-refl e.0)
 
 apart-name : (q n : List ℕ) (ns : List (List ℕ)) (b : Bool) → same_text n q ≡ b → list_any (same_text n) ns ≡ false → list_any (same_text q) ns ≡ true → b ≡ false
@@ -151,34 +152,34 @@ apart-name q n ns true on none some = absurd (true≢false (sym some ∙ ap (λ 
 apart-name q n ns false off none some = refl
 
 -- a queue in the list, by its name
-pub record IsAmong (e : Named) (queues : List Named) : Type 0 where
-  pub name : list_any (same_text e.0) (map (λ (x : Named). x.0) queues) ≡ true
+pub record IsAmong (e : Named Message) (queues : List (Named Message)) : Type 0 where
+  pub name : list_any (same_text e.0) (map (λ (x : Named Message). x.0) queues) ≡ true
   pub found : queue_of e.0 queues ≡ Some e.1
 
-pub among-head : (e : Named) (queues : List Named) → IsAmong e (e ∷ queues)
-among-head e queues = record { name = or_left (same_text e.0 e.0) (list_any (same_text e.0) (map (λ (x : Named). x.0) queues)) (same_text-refl e.0); found = found-head e queues }
+pub among-head : (e : Named Message) (queues : List (Named Message)) → IsAmong e (e ∷ queues)
+among-head e queues = record { name = or_left (same_text e.0 e.0) (list_any (same_text e.0) (map (λ (x : Named Message). x.0) queues)) (same_text-refl e.0); found = found-head e queues }
 
-pub among-later : (e d : Named) (queues : List Named) → list_any (same_text d.0) (map (λ (x : Named). x.0) queues) ≡ false → IsAmong e queues → IsAmong e (d ∷ queues)
+pub among-later : (e d : Named Message) (queues : List (Named Message)) → list_any (same_text d.0) (map (λ (x : Named Message). x.0) queues) ≡ false → IsAmong e queues → IsAmong e (d ∷ queues)
 among-later e d queues once a =
-    let off : same_text d.0 e.0 ≡ false = apart-name e.0 d.0 (map (λ (x : Named). x.0) queues) (same_text d.0 e.0) refl once a.name in
+    let off : same_text d.0 e.0 ≡ false = apart-name e.0 d.0 (map (λ (x : Named Message). x.0) queues) (same_text d.0 e.0) refl once a.name in
     record {
-      name = or_right (same_text e.0 d.0) (list_any (same_text e.0) (map (λ (x : Named). x.0) queues)) a.name;
+      name = or_right (same_text e.0 d.0) (list_any (same_text e.0) (map (λ (x : Named Message). x.0) queues)) a.name;
       found = ap (λ b. cond b (Some d.1) (queue_of e.0 queues)) (same_text-sym e.0 d.0 ∙ off) ∙ a.found;
     }
 
 -- the queue that passes the test
-record Passes (test : Mail → Bool) (queues : List Named) : Type 0 where
-  queue : Named
+record Passes (test : Mail Message → Bool) (queues : List (Named Message)) : Type 0 where
+  queue : Named Message
   among : IsAmong queue queues
   passes : test queue.1.mail ≡ true
 
-passes-by : (test : Mail → Bool) (e : Named) (queues : List Named) (b : Bool) → test e.1.mail ≡ b → list_any (same_text e.0) (map (λ (x : Named). x.0) queues) ≡ false → (b || list_any (λ (x : Named). test x.1.mail) queues) ≡ true → (list_any (λ (x : Named). test x.1.mail) queues ≡ true → Passes test queues) → Passes test (e ∷ queues)
+passes-by : (test : Mail Message → Bool) (e : Named Message) (queues : List (Named Message)) (b : Bool) → test e.1.mail ≡ b → list_any (same_text e.0) (map (λ (x : Named Message). x.0) queues) ≡ false → (b || list_any (λ (x : Named Message). test x.1.mail) queues) ≡ true → (list_any (λ (x : Named Message). test x.1.mail) queues ≡ true → Passes test queues) → Passes test (e ∷ queues)
 passes-by test e queues true on once any later = record { queue = e; among = among-head e queues; passes = on }
 passes-by test e queues false off once any later =
     let p : Passes test queues = later any in
     record { queue = p.queue; among = among-later p.queue e queues once p.among; passes = p.passes }
 
-passes-of : (test : Mail → Bool) (queues : List Named) → AreDistinct (map (λ (x : Named). x.0) queues) → list_any (λ (x : Named). test x.1.mail) queues ≡ true → Passes test queues
+passes-of : (test : Mail Message → Bool) (queues : List (Named Message)) → AreDistinct (map (λ (x : Named Message). x.0) queues) → list_any (λ (x : Named Message). test x.1.mail) queues ≡ true → Passes test queues
 passes-of test [] distinct any = absurd (false≢true any)
 passes-of test (e ∷ queues) distinct any = passes-by test e queues (test e.1.mail) refl distinct.0 any (passes-of test queues distinct.1)
 
@@ -212,18 +213,18 @@ held-row J p v k c n rs (Some row) all is h at =
     let stands : (row.copy ≡ c) × RowStands J p v row = find-stands J p v rs c row all is in
     subst (λ m. is_held_by J p k m ≡ true) stands.0 (client-of J p v k row.copy n (standing row.copy J) row.hold stands.1 h at)
 
-queue-held : (J : List Entry) (p : Place) (v : VhostState) (k : Client) (c n : ℕ) → HasCopies J p v → AreDistinct (map (λ (q : Named). q.0) v.queues) → is_held_in n c v.queues ≡ true → position (consumers.is_client k) v.clients ≡ Some n → is_held_by J p k c ≡ true
+queue-held : (J : List Entry) (p : Place) (v : VhostState) (k : Client) (c n : ℕ) → HasCopies J p v → AreDistinct (map (λ (q : Named Message). q.0) v.queues) → is_held_in n c v.queues ≡ true → position (consumers.is_client k) v.clients ≡ Some n → is_held_by J p k c ≡ true
 queue-held J p v k c n has distinct h at =
     let p' : Passes (is_held_at n c) v.queues = passes-of (is_held_at n c) v.queues distinct h in
-    let rs : All (RowStands J p v) p'.queue.1.mail.rows = subst (λ o. All (RowStands J p v) (option_map_or (λ (s : StandingQueue). s.mail.rows) o [])) p'.among.found (has.rows p'.queue.0) in
+    let rs : All (RowStands J p v) p'.queue.1.mail.rows = subst (λ o. All (RowStands J p v) (option_map_or (λ (s : QueueOf Message). s.mail.rows) o [])) p'.among.found (has.rows p'.queue.0) in
     held-row J p v k c n p'.queue.1.mail.rows (find (λ (r : Row). r.copy == c) p'.queue.1.mail.rows) rs refl p'.passes at
 
-queues-held : (J : List Entry) (p : Place) (v : VhostState) (k : Client) (c : ℕ) (o : Option ℕ) → HasCopies J p v → AreDistinct (map (λ (q : Named). q.0) v.queues) → position (consumers.is_client k) v.clients ≡ o → holds_as o c v.queues ≡ true → is_held_by J p k c ≡ true
+queues-held : (J : List Entry) (p : Place) (v : VhostState) (k : Client) (c : ℕ) (o : Option ℕ) → HasCopies J p v → AreDistinct (map (λ (q : Named Message). q.0) v.queues) → position (consumers.is_client k) v.clients ≡ o → holds_as o c v.queues ≡ true → is_held_by J p k c ≡ true
 queues-held J p v k c None has distinct at h = absurd (false≢true h)
 queues-held J p v k c (Some n) has distinct at h = queue-held J p v k c n has distinct h at
 
 -- a client holds a copy where the journal says so
-pub held_by-is : (J : List Entry) (p : Place) (v : VhostState) (k : Client) (c : ℕ) → HasCopies J p v → AreDistinct (map (λ (q : Named). q.0) v.queues) → holds_as (position (consumers.is_client k) v.clients) c v.queues ≡ is_held_by J p k c
+pub held_by-is : (J : List Entry) (p : Place) (v : VhostState) (k : Client) (c : ℕ) → HasCopies J p v → AreDistinct (map (λ (q : Named Message). q.0) v.queues) → holds_as (position (consumers.is_client k) v.clients) c v.queues ≡ is_held_by J p k c
 held_by-is J p v k c has distinct =
     alike (holds_as (position (consumers.is_client k) v.clients) c v.queues) (is_held_by J p k c)
     (queues-held J p v k c (position (consumers.is_client k) v.clients) has distinct refl)

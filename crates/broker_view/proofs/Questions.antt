@@ -19,7 +19,8 @@ use Rattle.fed_journal.specs.Holders.{same_client}
 use Rattle.fed_journal.specs.Copies.{Standing, Unknown, Ready, Held, Left, is_left, is_waiting, entered, standing}
 use Rattle.fed_journal.specs.Holds.{holder, holder_in, is_ready, first_ready, ready_count}
 use Rattle.fed_journal.specs.Consumers.{is_held_for, is_consumer_of, handed_since, held_count}
-use Rattle.mini_broker.specs.declared.standing.StandingQueue.{StandingQueue}
+use Rattle.amqp_props.specs.declared.message.Message.{Message}
+use Rattle.mini_broker.specs.Queues.{Standing as QueueOf}
 use Rattle.mini_broker.specs.declared.consumer.Consumer.{Consumer}
 use Rattle.mini_broker.specs.Queues as queues
 use Rattle.mini_broker.specs.Queues.{Named, queue_of}
@@ -81,7 +82,7 @@ waiting-away (Held h) k = absurd (true≢false k)
 say-ready : (J : List Entry) (p : Place) (v : VhostState) → SaySame J p v rows.is_ready (is_ready J)
 say-ready J p v = record { rows = λ row k. ready-as J p v row.copy (standing row.copy J) row.hold k; away = λ c h. waiting-away (standing c J) h }
 
-ready-in : (o : Option StandingQueue) → option_and_then (λ (s : StandingQueue). rows.first_ready s.mail.rows) o ≡ rows.first_ready (option_map_or (λ (s : StandingQueue). s.mail.rows) o [])
+ready-in : (o : Option (QueueOf Message)) → option_and_then (λ (s : QueueOf Message). rows.first_ready s.mail.rows) o ≡ rows.first_ready (option_map_or (λ (s : QueueOf Message). s.mail.rows) o [])
 ready-in None = refl
 ready-in (Some s) = refl
 
@@ -90,7 +91,7 @@ pub first_ready-is : (J : List Entry) (p : Place) (v : VhostState) (q : List ℕ
 unfolding first_ready
 first_ready-is J p v q has = ready-in (queue_of q v.queues) ∙ find-as J p v rows.is_ready (is_ready J) (say-ready J p v) (entered J p q) (rows_in q v.queues) (matches-of J p v q has)
 
-count-in : (test : Row → Bool) (o : Option StandingQueue) → option_map_or (λ (s : StandingQueue). count_by test s.mail.rows) o 0 ≡ count_by test (option_map_or (λ (s : StandingQueue). s.mail.rows) o [])
+count-in : (test : Row → Bool) (o : Option (QueueOf Message)) → option_map_or (λ (s : QueueOf Message). count_by test s.mail.rows) o 0 ≡ count_by test (option_map_or (λ (s : QueueOf Message). s.mail.rows) o [])
 count-in test None = refl
 count-in test (Some s) = refl
 

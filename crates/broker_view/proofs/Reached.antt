@@ -25,8 +25,7 @@ use Rattle.fed_journal.specs.Configuration.{queue_options}
 use Rattle.fed_journal.specs.Messages.{headers_of}
 use Rattle.fed_journal.specs.Names.{same_text}
 use Rattle.fed_journal.specs.Routes.{Site, first_site, site, site_at, site_step, is_at, made, gone, bound, unbound, has_ends, routes}
-use Rattle.mini_broker.specs.declared.standing.StandingQueue.{StandingQueue}
-use Rattle.mini_broker.specs.Queues.{queue_of}
+use Rattle.mini_broker.specs.Queues.{Standing, queue_of}
 use Rattle.mini_broker.specs.State.{VhostState}
 use Rattle.broker_view.specs.View.{IsConfigured, AreDistinct}
 use Rattle.broker_view.proofs.Names.{same_text-refl, same_text-sym}
@@ -64,7 +63,7 @@ routed-there r p =
     (filter-with (λ (o : Object). has (sort_of o.node) o.name r.objects ≡ true) (λ o. has sorts.Queue o.name r.objects ≡ true) (is_routed r p)
     (λ o h on. queue-there (sort_of o.node) o.name r.objects (and_parts (same_sort (sort_of o.node) sorts.Queue) (is_reached r p o.name) on).0 h) r.objects (each-there r.objects))
 
-some-options : (o : Option StandingQueue) → is_some (option_map (λ s. s.options) o) ≡ is_some o
+some-options : (o : Option (Standing Message)) → is_some (option_map (λ s. s.options) o) ≡ is_some o
 some-options None = refl
 some-options (Some s) = refl
 

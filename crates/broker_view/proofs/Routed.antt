@@ -14,8 +14,8 @@ use Rattle.route_core.specs.Objects.{has, is_named, number_of, rises}
 use Rattle.route_core.specs.Routing.{Routing, object_named, with_object, stands}
 use Rattle.fed_journal.specs.declared.place.ExchangeShape.{ExchangeShape}
 use Rattle.fed_journal.specs.Configuration.{predeclared_shape}
-use Rattle.mini_broker.specs.declared.standing.StandingQueue.{StandingQueue}
-use Rattle.mini_broker.specs.Queues.{Named, queue_of}
+use Rattle.amqp_props.specs.declared.message.Message.{Message}
+use Rattle.mini_broker.specs.Queues.{Standing, Named, queue_of}
 use Rattle.mini_broker.specs.Exchanges.{NamedShape, shape_of, declared_shape}
 use Rattle.mini_broker.specs.State.{AreRouted}
 use Rattle.broker_view.proofs.Names.{same_text-sym}
@@ -41,7 +41,7 @@ above : (n : ℕ) → nat_lt n (n + 1) ≡ true
 above n = grind (arith, nat_tests)
 
 -- a queue is made
-pub routed-queue : (r : Routing) (queues : List Named) (exchanges : List NamedShape) (made : ℕ) (name : List ℕ) (queue : StandingQueue) → AreRouted r queues exchanges made → AreRouted (with_object name (nodes.Queue made) r) (queues ++ (name, queue) ∷ []) exchanges (made + 1)
+pub routed-queue : (r : Routing) (queues : List (Named Message)) (exchanges : List NamedShape) (made : ℕ) (name : List ℕ) (queue : Standing Message) → AreRouted r queues exchanges made → AreRouted (with_object name (nodes.Queue made) r) (queues ++ (name, queue) ∷ []) exchanges (made + 1)
 routed-queue r queues exchanges made name queue known = record {
   queue_names = λ other. any-push (is_named sorts.Queue other) r.objects (object_named name (nodes.Queue made)) ∙ ap (λ b. b || bytes_eq name other) (known.queue_names other) ∙ ap (λ b. is_some (queue_of other queues) || b) (same_text-sym name other) ∙ sym (lookup-push other queues (name, queue));
   exchange_names = λ other. any-push (is_named sorts.Exchange other) r.objects (object_named name (nodes.Queue made)) ∙ or-false (has sorts.Exchange other r.objects) ∙ known.exchange_names other;
@@ -61,7 +61,7 @@ shape-push other exchanges name shape =
     either None None None here e = e
 
 -- an exchange is made
-pub routed-exchange : (r : Routing) (queues : List Named) (exchanges : List NamedShape) (made : ℕ) (name : List ℕ) (shape : ExchangeShape) → AreRouted r queues exchanges made → AreRouted (with_object name (nodes.Exchange shape.kind) r) queues (exchanges ++ (name, shape) ∷ []) made
+pub routed-exchange : (r : Routing) (queues : List (Named Message)) (exchanges : List NamedShape) (made : ℕ) (name : List ℕ) (shape : ExchangeShape) → AreRouted r queues exchanges made → AreRouted (with_object name (nodes.Exchange shape.kind) r) queues (exchanges ++ (name, shape) ∷ []) made
 routed-exchange r queues exchanges made name shape known = record {
   queue_names = λ other. any-push (is_named sorts.Queue other) r.objects (object_named name (nodes.Exchange shape.kind)) ∙ or-false (has sorts.Queue other r.objects) ∙ known.queue_names other;
   exchange_names = λ other. any-push (is_named sorts.Exchange other) r.objects (object_named name (nodes.Exchange shape.kind)) ∙ ap (λ b. b || bytes_eq name other) (known.exchange_names other) ∙ sym (shape-push other exchanges name shape);
@@ -69,10 +69,10 @@ routed-exchange r queues exchanges made name shape known = record {
 }
 
 -- a queue that isn't in the table isn't in the router
-pub free-queue : (r : Routing) (queues : List Named) (exchanges : List NamedShape) (made : ℕ) (name : List ℕ) → AreRouted r queues exchanges made → queue_of name queues ≡ None → stands sorts.Queue name r ≡ false
+pub free-queue : (r : Routing) (queues : List (Named Message)) (exchanges : List NamedShape) (made : ℕ) (name : List ℕ) → AreRouted r queues exchanges made → queue_of name queues ≡ None → stands sorts.Queue name r ≡ false
 free-queue r queues exchanges made name known none = known.queue_names name ∙ ap is_some none
 
-pub free-exchange : (r : Routing) (queues : List Named) (exchanges : List NamedShape) (made : ℕ) (name : List ℕ) → AreRouted r queues exchanges made → shape_of name exchanges ≡ None → bytes_eq name [] ≡ false → stands sorts.Exchange name r ≡ false
+pub free-exchange : (r : Routing) (queues : List (Named Message)) (exchanges : List NamedShape) (made : ℕ) (name : List ℕ) → AreRouted r queues exchanges made → shape_of name exchanges ≡ None → bytes_eq name [] ≡ false → stands sorts.Exchange name r ≡ false
 free-exchange r queues exchanges made name known none named = ap (λ b. b || has sorts.Exchange name r.objects) named ∙ known.exchange_names name ∙ ap is_some none
 
 pub not-declared : (name : List ℕ) (exchanges : List NamedShape) → shape_of name exchanges ≡ None → declared_shape name exchanges ≡ None

@@ -22,6 +22,7 @@ use Rattle.fed_journal.specs.declared.place.Place.{Place}
 use Rattle.fed_journal.specs.declared.entry.Entry.{Entry}
 use Rattle.fed_journal.specs.declared.entry.Entry.TheVariants.{MadeQueue, MadeExchange, GoneQueue, Bound, Unbound}
 use Rattle.fed_journal.specs.Routes.{Site, first_site, site, site_at, site_step, is_at, made, gone, bound, unbound, has_ends}
+use Rattle.amqp_props.specs.declared.message.Message.{Message}
 use Rattle.mini_broker.specs.Exchanges.{NamedShape}
 use Rattle.mini_broker.specs.Queues.{Named, queue_of}
 use Rattle.mini_broker.specs.State.{AreRouted}
@@ -152,7 +153,7 @@ pub lookup-without : {V : Type 0} (other name : List ℕ) (es : List (List ℕ �
 lookup-without other name es =
     lookup-filter-keys (bytes_eq other) (λ k. not (bytes_eq k name)) (not (bytes_eq other name)) (λ k on. ap (λ n. not (bytes_eq n name)) (sym (same_text-true other k on))) es
 
-pub routed-gone : (r : Routing) (queues : List Named) (exchanges : List NamedShape) (number : ℕ) (name : List ℕ) → AreRouted r queues exchanges number → AreRouted (without_object sorts.Queue name r) (filter (λ q. not (bytes_eq q.0 name)) queues) exchanges number
+pub routed-gone : (r : Routing) (queues : List (Named Message)) (exchanges : List NamedShape) (number : ℕ) (name : List ℕ) → AreRouted r queues exchanges number → AreRouted (without_object sorts.Queue name r) (filter (λ q. not (bytes_eq q.0 name)) queues) exchanges number
 routed-gone r queues exchanges number name h = record {
   queue_names = λ other.
       any-filter_same (is_named sorts.Queue other) (λ (o : Object). not (is_named sorts.Queue name o)) (not (bytes_eq other name)) (λ o is. named-same (sort_of o.node) o.name other name is) r.objects

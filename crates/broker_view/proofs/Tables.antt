@@ -11,9 +11,8 @@ use Rattle.amqp_props.specs.declared.link.QueueOptions.{QueueOptions}
 use Rattle.amqp_props.specs.declared.message.Message.{Message}
 use Rattle.fed_journal.specs.declared.place.Client.{Client}
 use Rattle.fed_journal.specs.Names.{same_text}
-use Rattle.mini_broker.specs.declared.standing.StandingQueue.{StandingQueue}
 use Rattle.mini_broker.specs.Mail.{Mail, entered, released_from}
-use Rattle.mini_broker.specs.Queues.{Named, queue_of, changed, all_changed, with_mail}
+use Rattle.mini_broker.specs.Queues.{Standing, Named, queue_of, changed, all_changed, with_mail}
 use Rattle.mini_broker.specs.Publish.{all_entered}
 use Rattle.mini_broker.specs.Close.{freed_from}
 use Rattle.broker_view.specs.View.{AreDistinct}
@@ -76,64 +75,64 @@ distinct-filter keep (n ∷ ns) h =
     ]
 
 -- names of the queues that stay
-pub names-filter : (keep : List ℕ → Bool) (queues : List Named) → map (λ (q : Named). q.0) (filter (λ q. keep q.0) queues) ≡ filter keep (map (λ q. q.0) queues)
+pub names-filter : (keep : List ℕ → Bool) (queues : List (Named Message)) → map (λ (q : Named Message). q.0) (filter (λ q. keep q.0) queues) ≡ filter keep (map (λ q. q.0) queues)
 names-filter keep [] = refl
 names-filter keep (q ∷ queues) =
-    elim (keep q.0) as (λ b. map (λ (x : Named). x.0) (cond b (q ∷ filter (λ x. keep x.0) queues) (filter (λ x. keep x.0) queues)) ≡ cond b (q.0 ∷ filter keep (map (λ x. x.0) queues)) (filter keep (map (λ x. x.0) queues))) [
+    elim (keep q.0) as (λ b. map (λ (x : Named Message). x.0) (cond b (q ∷ filter (λ x. keep x.0) queues) (filter (λ x. keep x.0) queues)) ≡ cond b (q.0 ∷ filter keep (map (λ x. x.0) queues)) (filter keep (map (λ x. x.0) queues))) [
       | true ↦ ap (λ ns. q.0 ∷ ns) (names-filter keep queues)
       | false ↦ names-filter keep queues
     ]
 
 -- no queue of that name
-pub absent-any : (name : List ℕ) (queues : List Named) → queue_of name queues ≡ None → list_any (same_text name) (map (λ q. q.0) queues) ≡ false
+pub absent-any : (name : List ℕ) (queues : List (Named Message)) → queue_of name queues ≡ None → list_any (same_text name) (map (λ q. q.0) queues) ≡ false
 absent-any name queues none = sym (is_some-lookup (bytes_eq name) queues) ∙ ap is_some none
 
 -- ---- queues without their copies
 
 -- what a queue was declared with, and whose it is
-abbrev pub declared_as : StandingQueue → QueueOptions × Option ℕ
+abbrev pub declared_as : Standing Message → QueueOptions × Option ℕ
 declared_as queue = (queue.options, queue.owner)
 
-abbrev pub plain : List Named → List (List ℕ × (QueueOptions × Option ℕ))
+abbrev pub plain : List (Named Message) → List (List ℕ × (QueueOptions × Option ℕ))
 plain queues = map (λ q. (q.0, declared_as q.1)) queues
 
-plain-of : (name : List ℕ) (queues : List Named) → lookup (bytes_eq name) (plain queues) ≡ option_map declared_as (queue_of name queues)
+plain-of : (name : List ℕ) (queues : List (Named Message)) → lookup (bytes_eq name) (plain queues) ≡ option_map declared_as (queue_of name queues)
 plain-of name queues = lookup-map_values declared_as (bytes_eq name) queues
 
-plain-names : (queues : List Named) → map (λ q. q.0) (plain queues) ≡ map (λ q. q.0) queues
+plain-names : (queues : List (Named Message)) → map (λ q. q.0) (plain queues) ≡ map (λ q. q.0) queues
 plain-names [] = refl
 plain-names (q ∷ queues) = ap (λ ns. q.0 ∷ ns) (plain-names queues)
 
-pub same-names : (was now : List Named) → plain now ≡ plain was → map (λ q. q.0) now ≡ map (λ q. q.0) was
+pub same-names : (was now : List (Named Message)) → plain now ≡ plain was → map (λ q. q.0) now ≡ map (λ q. q.0) was
 same-names was now same = sym (plain-names now) ∙ ap (λ es. map (λ e. e.0) es) same ∙ plain-names was
 
-same-declared : (was now : List Named) → plain now ≡ plain was → (name : List ℕ) → option_map declared_as (queue_of name now) ≡ option_map declared_as (queue_of name was)
+same-declared : (was now : List (Named Message)) → plain now ≡ plain was → (name : List ℕ) → option_map declared_as (queue_of name now) ≡ option_map declared_as (queue_of name was)
 same-declared was now same name = sym (plain-of name now) ∙ ap (lookup (bytes_eq name)) same ∙ plain-of name was
 
-options-of : (o : Option StandingQueue) → option_map (λ s. s.options) o ≡ option_map (λ d. d.0) (option_map declared_as o)
+options-of : (o : Option (Standing Message)) → option_map (λ s. s.options) o ≡ option_map (λ d. d.0) (option_map declared_as o)
 options-of None = refl
 options-of (Some s) = refl
 
-owner-of : (o : Option StandingQueue) → option_and_then (λ s. s.owner) o ≡ option_and_then (λ d. d.1) (option_map declared_as o)
+owner-of : (o : Option (Standing Message)) → option_and_then (λ s. s.owner) o ≡ option_and_then (λ d. d.1) (option_map declared_as o)
 owner-of None = refl
 owner-of (Some s) = refl
 
-some-of : (o : Option StandingQueue) → is_some o ≡ is_some (option_map declared_as o)
+some-of : (o : Option (Standing Message)) → is_some o ≡ is_some (option_map declared_as o)
 some-of None = refl
 some-of (Some s) = refl
 
-pub same-options : (was now : List Named) → plain now ≡ plain was → (name : List ℕ) → option_map (λ s. s.options) (queue_of name now) ≡ option_map (λ s. s.options) (queue_of name was)
+pub same-options : (was now : List (Named Message)) → plain now ≡ plain was → (name : List ℕ) → option_map (λ s. s.options) (queue_of name now) ≡ option_map (λ s. s.options) (queue_of name was)
 same-options was now same name = options-of (queue_of name now) ∙ ap (option_map (λ d. d.0)) (same-declared was now same name) ∙ sym (options-of (queue_of name was))
 
-pub same-owner : (was now : List Named) → plain now ≡ plain was → (name : List ℕ) → option_and_then (λ s. s.owner) (queue_of name now) ≡ option_and_then (λ s. s.owner) (queue_of name was)
+pub same-owner : (was now : List (Named Message)) → plain now ≡ plain was → (name : List ℕ) → option_and_then (λ s. s.owner) (queue_of name now) ≡ option_and_then (λ s. s.owner) (queue_of name was)
 same-owner was now same name = owner-of (queue_of name now) ∙ ap (option_and_then (λ d. d.1)) (same-declared was now same name) ∙ sym (owner-of (queue_of name was))
 
-pub same-some : (was now : List Named) → plain now ≡ plain was → (name : List ℕ) → is_some (queue_of name now) ≡ is_some (queue_of name was)
+pub same-some : (was now : List (Named Message)) → plain now ≡ plain was → (name : List ℕ) → is_some (queue_of name now) ≡ is_some (queue_of name was)
 same-some was now same name = some-of (queue_of name now) ∙ ap is_some (same-declared was now same name) ∙ sym (some-of (queue_of name was))
 
 -- ---- changes of the copies alone
 
-pub plain-changed : (name : List ℕ) (f : Mail → Mail) (queues : List Named) → plain (changed name (with_mail f) queues) ≡ plain queues
+pub plain-changed : (name : List ℕ) (f : Mail Message → Mail Message) (queues : List (Named Message)) → plain (changed name (with_mail f) queues) ≡ plain queues
 plain-changed name f [] = refl
 plain-changed name f (q ∷ queues) =
     elim (bytes_eq name q.0) as (λ b. plain (cond b ((q.0, with_mail f q.1) ∷ queues) (q ∷ changed name (with_mail f) queues)) ≡ plain (q ∷ queues)) [
@@ -141,16 +140,16 @@ plain-changed name f (q ∷ queues) =
       | false ↦ ap (λ rest. (q.0, declared_as q.1) ∷ rest) (plain-changed name f queues)
     ]
 
-pub plain-all : (f : Mail → Mail) (queues : List Named) → plain (all_changed (with_mail f) queues) ≡ plain queues
+pub plain-all : (f : Mail Message → Mail Message) (queues : List (Named Message)) → plain (all_changed (with_mail f) queues) ≡ plain queues
 plain-all f [] = refl
 plain-all f (q ∷ queues) = ap (λ rest. (q.0, declared_as q.1) ∷ rest) (plain-all f queues)
 
-pub plain-entered : (names : List (List ℕ)) (number : ℕ) (m : Message) (queues : List Named) → plain (all_entered names number m queues) ≡ plain queues
+pub plain-entered : (names : List (List ℕ)) (number : ℕ) (m : Message) (queues : List (Named Message)) → plain (all_entered names number m queues) ≡ plain queues
 plain-entered [] number m queues = refl
 plain-entered (name ∷ names) number m queues =
     plain-entered names (number + 1) m (changed name (with_mail (entered number m)) queues) ∙ plain-changed name (entered number m) queues
 
-pub plain-freed : (connection number : ℕ) (clients : List Client) (queues : List Named) → plain (freed_from connection number clients queues) ≡ plain queues
+pub plain-freed : (connection number : ℕ) (clients : List Client) (queues : List (Named Message)) → plain (freed_from connection number clients queues) ≡ plain queues
 plain-freed connection number [] queues = refl
 plain-freed connection number (client ∷ clients) queues =
     plain-freed connection (number + 1) clients _

@@ -9,8 +9,8 @@ use Rattle.fed_journal.specs.declared.entry.Entry.{Entry}
 use Rattle.fed_journal.specs.declared.entry.Entry.TheVariants.{Published, Delivered}
 use Rattle.fed_journal.specs.Configuration.{queue_options}
 use Rattle.fed_journal.specs.Routes.{routes}
-use Rattle.mini_broker.specs.declared.standing.StandingQueue.{StandingQueue}
-use Rattle.mini_broker.specs.Queues.{queue_of}
+use Rattle.amqp_props.specs.declared.message.Message.{Message}
+use Rattle.mini_broker.specs.Queues.{Standing, queue_of}
 use Rattle.mini_broker.specs.Record.{holder_as}
 use Rattle.mini_broker.specs.State.{VhostState}
 use Rattle.broker_view.specs.View.{AreDistinct, IsConfigured, HasConsumers, IsChannel, IsView}
@@ -24,7 +24,7 @@ use Rattle.broker_view.proofs.Holding.{holder-step, holder-fresh}
 use Rattle.broker_view.proofs.Reached.{routes-stand, routes-distinct}
 use Rattle.broker_view.proofs.CopiesStep.{IsRouted, IsFresh, copies-step}
 
-some-map : (o : Option StandingQueue) → is_some (option_map (λ (s : StandingQueue). s.options) o) ≡ is_some o
+some-map : (o : Option (Standing Message)) → is_some (option_map (λ (s : Standing Message). s.options) o) ≡ is_some o
 some-map None = refl
 some-map (Some s) = refl
 

@@ -16,6 +16,7 @@ use Rattle.fed_journal.specs.Routes.{site}
 use Rattle.fed_journal.specs.Holders as holders
 use Rattle.fed_journal.specs.Copies.{Standing, Ready, Held, publication_of, copy_count, entered, is_gone, is_home, standing}
 use Rattle.fed_journal.specs.Consumers as journal
+use Rattle.amqp_props.specs.declared.message.Message.{Message}
 use Rattle.mini_broker.specs.declared.consumer.Consumer.{Consumer}
 use Rattle.mini_broker.specs.Consumers.{is_client, is_consumer}
 use Rattle.mini_broker.specs.Queues.{Named, queue_of, AreAbove}
@@ -72,7 +73,7 @@ pub record HasConsumers (J : List Entry) (p : Place) (v : VhostState) : Type 0 w
 -- ---- copies
 
 -- the copies of the queue of that name
-abbrev pub rows_in : List ℕ → List Named → List Row
+abbrev pub rows_in : List ℕ → List (Named Message) → List Row
 rows_in q queues = option_map_or (λ s. s.mail.rows) (queue_of q queues) []
 
 -- the copy entered that queue

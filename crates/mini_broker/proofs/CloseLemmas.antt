@@ -15,12 +15,13 @@ use Rattle.route_core.specs.Objects.{has, is_named, same_sort, sort_of, number_o
 use Rattle.route_core.specs.Routing.{Routing, without_object}
 use Rattle.fed_journal.specs.declared.place.Client.{Client}
 use Rattle.mini_broker.specs.Mail.{released_from}
-use Rattle.mini_broker.specs.Queues.{Named, queue_of, all_changed, with_mail}
+use Rattle.amqp_props.specs.declared.message.Message.{Message}
+use Rattle.mini_broker.specs.Queues.{Named, named, queue_of, all_changed, with_mail}
 use Rattle.mini_broker.specs.Exchanges.{NamedShape}
 use Rattle.mini_broker.specs.State.{AreRouted, SameNames}
 use Rattle.mini_broker.specs.Close.{freed_from, others, is_owned, owned_names, StandInTurn}
 use Rattle.mini_broker.proofs.NameLemmas.{either_way, stands_mapped}
-use Rattle.mini_broker.proofs.QueueLemmas.{Entries, named}
+use Rattle.mini_broker.proofs.QueueLemmas.{Entries}
 
 and_false : (a : Bool) → (a && false) ≡ false
 and_false true = refl
@@ -62,14 +63,14 @@ any_gone p test gone (x ∷ xs) =
       | false ↦ (λ _. any_gone p test gone xs)
     ] refl
 
-any_some : (name : List ℕ) (queues : List Named) → is_some (queue_of name queues) ≡ list_any (λ q. bytes_eq name q.0) queues
+any_some : {M : Type 0} (name : List ℕ) (queues : List (Named M)) → is_some (queue_of name queues) ≡ list_any (λ q. bytes_eq name q.0) queues
 any_some name [] = refl
 any_some name (q ∷ queues) =
     elim (bytes_eq name q.0) as (λ b. is_some (cond b (Some q.1) (queue_of name queues)) ≡ (b || list_any (λ q. bytes_eq name q.0) queues)) [ true ↦ refl | false ↦ any_some name queues ]
 
 -- what stands once a queue is gone
-pub stands_others : (other name : List ℕ) (queues : List Named) → is_some (queue_of other (others name queues)) ≡ (is_some (queue_of other queues) && not (bytes_eq other name))
-stands_others other name queues =
+pub stands_others : {M : Type 0} (other name : List ℕ) (queues : List (Named M)) → is_some (queue_of other (others name queues)) ≡ (is_some (queue_of other queues) && not (bytes_eq other name))
+stands_others {M = M} other name queues =
     any_some other (others name queues)
     ∙ elim (bytes_eq other name) as (λ b. bytes_eq other name ≡ b → list_any (λ q. bytes_eq other q.0) (others name queues) ≡ (list_any (λ q. bytes_eq other q.0) queues && not b)) [
       | true ↦ (λ is. any_gone (λ q. bytes_eq other q.0) (λ q. not (bytes_eq q.0 name)) (λ q on. tested q on ∙ ap not is) queues ∙ sym (and_false (list_any (λ q. bytes_eq other q.0) queues)))
@@ -77,7 +78,7 @@ stands_others other name queues =
     ] refl
     ∙ ap (λ b. b && not (bytes_eq other name)) (sym (any_some other queues))
   where
-    tested : (q : Named) → bytes_eq other q.0 ≡ true → not (bytes_eq q.0 name) ≡ not (bytes_eq other name)
+    tested : (q : Named M) → bytes_eq other q.0 ≡ true → not (bytes_eq q.0 name) ≡ not (bytes_eq other name)
     tested q on = ap (λ n. not (bytes_eq n name)) (sym ((bytes_eq-Decides other q.0).0 on))
 
 -- what the router knows once a queue is gone
@@ -103,7 +104,7 @@ known_exchanges other name objects =
     differs sorts.Exchange a b e = refl
 
 -- a queue goes
-pub routed_others : (r : Routing) (queues : List Named) (exchanges : List NamedShape) (made : ℕ) (name : List ℕ) → AreRouted r queues exchanges made → AreRouted (without_object sorts.Queue name r) (others name queues) exchanges made
+pub routed_others : (r : Routing) (queues : List (Named Message)) (exchanges : List NamedShape) (made : ℕ) (name : List ℕ) → AreRouted r queues exchanges made → AreRouted (without_object sorts.Queue name r) (others name queues) exchanges made
 routed_others r queues exchanges made name known = record {
   queue_names = λ other. known_others other name r.objects ∙ ap (λ b. b && not (bytes_eq other name)) (known.queue_names other) ∙ sym (stands_others other name queues);
   exchange_names = λ other. known_exchanges other name r.objects ∙ known.exchange_names other;
@@ -111,7 +112,7 @@ routed_others r queues exchanges made name known = record {
 }
 
 -- no queue comes or goes as a connection lets go of its copies
-pub freed_names : (connection number : ℕ) (clients : List Client) (queues : List Named) → SameNames queues (freed_from connection number clients queues)
+pub freed_names : {M : Type 0} (connection number : ℕ) (clients : List Client) (queues : List (Named M)) → SameNames queues (freed_from connection number clients queues)
 freed_names connection number [] queues = λ name. refl
 freed_names connection number (client ∷ clients) queues =
     λ name. freed_names connection (number + 1) clients (cond (client.connection == connection) (all_changed (with_mail (released_from number)) queues) queues) name
@@ -122,12 +123,12 @@ freed_names connection number (client ∷ clients) queues =
 
 -- ---- queues that go one after the other
 
-pub turn_same : (names : List (List ℕ)) (was now : List Named) → SameNames was now → StandInTurn names was → StandInTurn names now
+pub turn_same : {M : Type 0} (names : List (List ℕ)) (was now : List (Named M)) → SameNames was now → StandInTurn names was → StandInTurn names now
 turn_same [] was now same h = tt
 turn_same (name ∷ names) was now same h =
     (same name ∙ h.0, turn_same names (others name was) (others name now) (λ other. stands_others other name now ∙ ap (λ b. b && not (bytes_eq other name)) (same other) ∙ sym (stands_others other name was)) h.1)
 
-turn_more : (names : List (List ℕ)) (q : Named) (queues : List Named) → StandInTurn names queues → StandInTurn names (q ∷ queues)
+turn_more : {M : Type 0} (names : List (List ℕ)) (q : Named M) (queues : List (Named M)) → StandInTurn names queues → StandInTurn names (q ∷ queues)
 turn_more [] q queues h = tt
 turn_more (name ∷ names) q queues h = (
   elim (bytes_eq name q.0) as (λ b. is_some (cond b (Some q.1) (queue_of name queues)) ≡ true) [ true ↦ refl | false ↦ h.0 ],

@@ -13,20 +13,20 @@ use Rattle.mini_broker.specs.Mail.{HaveMessages, is_copy, has_copy, copy_of, as_
 use borrow.Author.Tests.{eqb-true}
 
 -- a change of rows that keeps their numbers
-pub same_numbers : (change : Row → Row) → ((row : Row) → (change row).copy ≡ row.copy) → (rows : List Row) (copies : List CopyMessage) → HaveMessages rows copies → HaveMessages (map change rows) copies
+pub same_numbers : (change : Row → Row) → ((row : Row) → (change row).copy ≡ row.copy) → (rows : List Row) (copies : List (CopyMessage ℕ)) → HaveMessages rows copies → HaveMessages (map change rows) copies
 same_numbers change same rows copies h =
     All-map (λ row. has_copy row.copy copies ≡ true) change rows (All-weaker (λ row. has_copy row.copy copies ≡ true) (λ row. has_copy (change row).copy copies ≡ true) (λ row e. rw (same row) e) rows h)
 
-pub seen_too : (number n : ℕ) (copies : List CopyMessage) → has_copy n (map (as_seen number) copies) ≡ has_copy n copies
+pub seen_too : (number n : ℕ) (copies : List (CopyMessage ℕ)) → has_copy n (map (as_seen number) copies) ≡ has_copy n copies
 seen_too number n [] = refl
 seen_too number n (copy ∷ copies) = ap (λ b. is_copy n copy || b) (seen_too number n copies)
 
 -- once it was handed out, too
-pub seen_all : (number : ℕ) (rows : List Row) (copies : List CopyMessage) → HaveMessages rows copies → HaveMessages rows (map (as_seen number) copies)
+pub seen_all : (number : ℕ) (rows : List Row) (copies : List (CopyMessage ℕ)) → HaveMessages rows copies → HaveMessages rows (map (as_seen number) copies)
 seen_all number rows copies h = All-weaker (λ row. has_copy row.copy copies ≡ true) (λ row. has_copy row.copy (map (as_seen number) copies) ≡ true) (λ row e. seen_too number row.copy copies ∙ e) rows h
 
 -- the copies of that number all stay
-pub has_kept : (test : CopyMessage → Bool) (n : ℕ) (copies : List CopyMessage) → ((copy : CopyMessage) → copy.number ≡ n → test copy ≡ true) → has_copy n copies ≡ true → has_copy n (filter test copies) ≡ true
+pub has_kept : (test : CopyMessage ℕ → Bool) (n : ℕ) (copies : List (CopyMessage ℕ)) → ((copy : CopyMessage ℕ) → copy.number ≡ n → test copy ≡ true) → has_copy n copies ≡ true → has_copy n (filter test copies) ≡ true
 has_kept test n [] stay h = h
 has_kept test n (copy ∷ copies) stay h =
     elim (test copy) as (λ b. test copy ≡ b → has_copy n (cond b (copy ∷ filter test copies) (filter test copies)) ≡ true) [
@@ -48,7 +48,7 @@ filter_all P Q test step (row ∷ rows) h =
     ] refl
 
 -- what is left once a copy has gone
-pub without_it : (number : ℕ) (rows : List Row) (copies : List CopyMessage) → HaveMessages rows copies → HaveMessages (filter (λ row. not (row.copy == number)) rows) (filter (λ copy. not (copy.number == number)) copies)
+pub without_it : (number : ℕ) (rows : List Row) (copies : List (CopyMessage ℕ)) → HaveMessages rows copies → HaveMessages (filter (λ row. not (row.copy == number)) rows) (filter (λ copy. not (copy.number == number)) copies)
 without_it number rows copies h =
     filter_all (λ row. has_copy row.copy copies ≡ true) (λ row. has_copy row.copy (filter (λ copy. not (copy.number == number)) copies) ≡ true) (λ row. not (row.copy == number)) (λ row e on. has_kept (λ copy. not (copy.number == number)) row.copy copies (λ copy is. rw is on) e) rows h
 
@@ -75,7 +75,7 @@ each_has (row ∷ rows) =
     either false b e = e
 
 -- the rows that are held have their messages among the copies that are held
-pub held_ones : (rows : List Row) (copies : List CopyMessage) → HaveMessages rows copies → HaveMessages (filter is_held rows) (filter (λ copy. is_some (holder_of copy.number (filter is_held rows))) copies)
+pub held_ones : (rows : List Row) (copies : List (CopyMessage ℕ)) → HaveMessages rows copies → HaveMessages (filter is_held rows) (filter (λ copy. is_some (holder_of copy.number (filter is_held rows))) copies)
 held_ones rows copies h =
     let kept = filter is_held rows in
     let held : All (λ row. is_held row ≡ true) kept = filter_all (λ row. has_copy row.copy copies ≡ true) (λ row. is_held row ≡ true) is_held (λ row _ on. on) rows h in
@@ -93,22 +93,22 @@ held_ones rows copies h =
             (join some (All-tail (λ r. has r.copy kept ≡ true) row some a) (All-tail (λ r. has_copy r.copy copies ≡ true) row some b))
 
 -- what is ready has a message
-pub first_there : (rows : List Row) (copies : List CopyMessage) → HaveMessages rows copies → option_map (λ (copy : CopyMessage). copy.number) (option_and_then (λ number. copy_of number copies) (first_ready rows)) ≡ first_ready rows
+pub first_there : (rows : List Row) (copies : List (CopyMessage ℕ)) → HaveMessages rows copies → option_map (λ (copy : CopyMessage ℕ). copy.number) (option_and_then (λ number. copy_of number copies) (first_ready rows)) ≡ first_ready rows
 first_there [] copies h = refl
 first_there (row ∷ rows) copies h =
-    elim (is_ready row) as (λ b. option_map (λ (copy : CopyMessage). copy.number) (option_and_then (λ number. copy_of number copies) (option_map (λ (r : Row). r.copy) (cond b (Some row) (find is_ready rows)))) ≡ option_map (λ (r : Row). r.copy) (cond b (Some row) (find is_ready rows))) [
+    elim (is_ready row) as (λ b. option_map (λ (copy : CopyMessage ℕ). copy.number) (option_and_then (λ number. copy_of number copies) (option_map (λ (r : Row). r.copy) (cond b (Some row) (find is_ready rows)))) ≡ option_map (λ (r : Row). r.copy) (cond b (Some row) (find is_ready rows))) [
       | true ↦ numbered row.copy copies (All-head (λ r. has_copy r.copy copies ≡ true) row rows h)
       | false ↦ first_there rows copies (All-tail (λ r. has_copy r.copy copies ≡ true) row rows h)
     ]
   where
-    numbered : (n : ℕ) (copies : List CopyMessage) → has_copy n copies ≡ true → option_map (λ (copy : CopyMessage). copy.number) (copy_of n copies) ≡ Some n
+    numbered : (n : ℕ) (copies : List (CopyMessage ℕ)) → has_copy n copies ≡ true → option_map (λ (copy : CopyMessage ℕ). copy.number) (copy_of n copies) ≡ Some n
     numbered n [] e = absurd (false≢true e)
     numbered n (copy ∷ copies) e =
-        elim (copy.number == n) as (λ b. (copy.number == n) ≡ b → (b || has_copy n copies) ≡ true → option_map (λ (k : CopyMessage). k.number) (cond b (Some copy) (find (is_copy n) copies)) ≡ Some n) [
+        elim (copy.number == n) as (λ b. (copy.number == n) ≡ b → (b || has_copy n copies) ≡ true → option_map (λ (k : CopyMessage ℕ). k.number) (cond b (Some copy) (find (is_copy n) copies)) ≡ Some n) [
           | true ↦ (λ is _. ap Some (eqb-true _ _ is))
           | false ↦ (λ _ rest. numbered n copies rest)
         ] refl e
 
-pub copied : (found : Option (Bor CopyMessage)) → option_map (λ copy. copy.now.number) found ≡ option_map (λ (copy : CopyMessage). copy.number) (option_copied found)
+pub copied : (found : Option (Bor (CopyMessage ℕ))) → option_map (λ copy. copy.now.number) found ≡ option_map (λ (copy : CopyMessage ℕ). copy.number) (option_copied found)
 copied None = refl
 copied (Some copy) = refl

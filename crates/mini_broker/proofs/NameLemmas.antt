@@ -17,8 +17,8 @@ use Rattle.amqp_props.specs.declared.link.ExchangeKind.{ExchangeKind}
 use Rattle.amqp_props.specs.declared.link.ExchangeKind.TheVariants.{Direct, Fanout, Headers, Topic}
 use Rattle.fed_journal.specs.declared.place.ExchangeShape.{ExchangeShape}
 use Rattle.fed_journal.specs.Configuration.{predeclared_shape}
-use Rattle.mini_broker.specs.declared.standing.StandingQueue.{StandingQueue}
-use Rattle.mini_broker.specs.Queues.{Named, queue_of, changed, all_changed}
+use Rattle.amqp_props.specs.declared.message.Message.{Message}
+use Rattle.mini_broker.specs.Queues.{Standing, Named, queue_of, changed, all_changed}
 use Rattle.mini_broker.specs.Exchanges.{NamedShape, shape_of, declared_shape}
 use Rattle.mini_broker.specs.State.{AreRouted, SameNames}
 
@@ -75,7 +75,7 @@ ten name =
     (five (bytes_eq name (codes "amq.direct")) (bytes_eq name (codes "amq.fanout")) (bytes_eq name (codes "amq.headers")) (bytes_eq name (codes "amq.match")) (bytes_eq name (codes "amq.topic")))
 
 -- at first the router knows the predeclared exchanges
-pub bare_routed : (r : Routing) (queues : List Named) (exchanges : List NamedShape) → r.objects ≡ predeclared → queues ≡ [] → exchanges ≡ [] → AreRouted r queues exchanges 0
+pub bare_routed : (r : Routing) (queues : List (Named Message)) (exchanges : List NamedShape) → r.objects ≡ predeclared → queues ≡ [] → exchanges ≡ [] → AreRouted r queues exchanges 0
 bare_routed r queues exchanges objects none no_exchanges = record {
   queue_names = λ name. rw (objects, none) refl;
   exchange_names = λ name. rw (objects, no_exchanges) (ten name);
@@ -87,7 +87,7 @@ later None made e = refl
 later (Some k) made e = grind (arith, nat_tests, e)
 
 -- a queue is made
-pub routed_queue : (r : Routing) (queues : List Named) (exchanges : List NamedShape) (made : ℕ) (name : List ℕ) (queue : StandingQueue) → AreRouted r queues exchanges made → AreRouted (with_object name (nodes.Queue made) r) (queues ++ (name, queue) ∷ []) exchanges (made + 1)
+pub routed_queue : (r : Routing) (queues : List (Named Message)) (exchanges : List NamedShape) (made : ℕ) (name : List ℕ) (queue : Standing Message) → AreRouted r queues exchanges made → AreRouted (with_object name (nodes.Queue made) r) (queues ++ (name, queue) ∷ []) exchanges (made + 1)
 routed_queue r queues exchanges made name queue known = record {
   queue_names = λ other. any_push (is_named sorts.Queue other) r.objects (object_named name (nodes.Queue made)) ∙ ap (λ b. b || bytes_eq name other) (known.queue_names other) ∙ ap (λ b. is_some (queue_of other queues) || b) (either_way name other) ∙ sym (lookup_push other queues (name, queue));
   exchange_names = λ other. any_push (is_named sorts.Exchange other) r.objects (object_named name (nodes.Queue made)) ∙ or_false (has sorts.Exchange other r.objects) ∙ known.exchange_names other;
@@ -110,7 +110,7 @@ shape_push other exchanges name shape =
     either None None None here e = e
 
 -- an exchange is made
-pub routed_exchange : (r : Routing) (queues : List Named) (exchanges : List NamedShape) (made : ℕ) (name : List ℕ) (shape : ExchangeShape) → AreRouted r queues exchanges made → AreRouted (with_object name (nodes.Exchange shape.kind) r) queues (exchanges ++ (name, shape) ∷ []) made
+pub routed_exchange : (r : Routing) (queues : List (Named Message)) (exchanges : List NamedShape) (made : ℕ) (name : List ℕ) (shape : ExchangeShape) → AreRouted r queues exchanges made → AreRouted (with_object name (nodes.Exchange shape.kind) r) queues (exchanges ++ (name, shape) ∷ []) made
 routed_exchange r queues exchanges made name shape known = record {
   queue_names = λ other. any_push (is_named sorts.Queue other) r.objects (object_named name (nodes.Exchange shape.kind)) ∙ or_false (has sorts.Queue other r.objects) ∙ known.queue_names other;
   exchange_names = λ other. any_push (is_named sorts.Exchange other) r.objects (object_named name (nodes.Exchange shape.kind)) ∙ ap (λ b. b || bytes_eq name other) (known.exchange_names other) ∙ sym (shape_push other exchanges name shape);
@@ -118,10 +118,10 @@ routed_exchange r queues exchanges made name shape known = record {
 }
 
 -- a queue that isn't in the table isn't in the router
-pub free_queue : (r : Routing) (queues : List Named) (exchanges : List NamedShape) (made : ℕ) (name : List ℕ) → AreRouted r queues exchanges made → queue_of name queues ≡ None → stands sorts.Queue name r ≡ false
+pub free_queue : (r : Routing) (queues : List (Named Message)) (exchanges : List NamedShape) (made : ℕ) (name : List ℕ) → AreRouted r queues exchanges made → queue_of name queues ≡ None → stands sorts.Queue name r ≡ false
 free_queue r queues exchanges made name known none = known.queue_names name ∙ ap is_some none
 
-pub free_exchange : (r : Routing) (queues : List Named) (exchanges : List NamedShape) (made : ℕ) (name : List ℕ) → AreRouted r queues exchanges made → shape_of name exchanges ≡ None → bytes_eq name [] ≡ false → stands sorts.Exchange name r ≡ false
+pub free_exchange : (r : Routing) (queues : List (Named Message)) (exchanges : List NamedShape) (made : ℕ) (name : List ℕ) → AreRouted r queues exchanges made → shape_of name exchanges ≡ None → bytes_eq name [] ≡ false → stands sorts.Exchange name r ≡ false
 free_exchange r queues exchanges made name known none named = ap (λ b. b || has sorts.Exchange name r.objects) named ∙ known.exchange_names name ∙ ap is_some none
 
 pub not_declared : (name : List ℕ) (exchanges : List NamedShape) → shape_of name exchanges ≡ None → declared_shape name exchanges ≡ None
@@ -133,7 +133,7 @@ not_declared name exchanges none = first (declared_shape name exchanges) (predec
 
 -- ---- queues that are changed
 
-pub stands_changed : (other name : List ℕ) (change : StandingQueue → StandingQueue) (queues : List Named) → is_some (queue_of other (changed name change queues)) ≡ is_some (queue_of other queues)
+pub stands_changed : {M : Type 0} (other name : List ℕ) (change : Standing M → Standing M) (queues : List (Named M)) → is_some (queue_of other (changed name change queues)) ≡ is_some (queue_of other queues)
 stands_changed other name change [] = refl
 stands_changed other name change (q ∷ queues) =
     elim (bytes_eq name q.0) as (λ b. is_some (queue_of other (cond b ((q.0, change q.1) ∷ queues) (q ∷ changed name change queues))) ≡ is_some (queue_of other (q ∷ queues))) [
@@ -141,26 +141,26 @@ stands_changed other name change (q ∷ queues) =
       | false ↦ elim (bytes_eq other q.0) as (λ b. is_some (cond b (Some q.1) (queue_of other (changed name change queues))) ≡ is_some (cond b (Some q.1) (queue_of other queues))) [ true ↦ refl | false ↦ stands_changed other name change queues ]
     ]
 
-pub stands_mapped : (other : List ℕ) (change : StandingQueue → StandingQueue) (queues : List Named) → is_some (queue_of other (all_changed change queues)) ≡ is_some (queue_of other queues)
+pub stands_mapped : {M : Type 0} (other : List ℕ) (change : Standing M → Standing M) (queues : List (Named M)) → is_some (queue_of other (all_changed change queues)) ≡ is_some (queue_of other queues)
 stands_mapped other change [] = refl
 stands_mapped other change (q ∷ queues) =
     elim (bytes_eq other q.0) as (λ b. is_some (cond b (Some (change q.1)) (queue_of other (all_changed change queues))) ≡ is_some (cond b (Some q.1) (queue_of other queues))) [ true ↦ refl | false ↦ stands_mapped other change queues ]
 
-pub routed_same : (r : Routing) (was now : List Named) (exchanges : List NamedShape) (made : ℕ) → SameNames was now → AreRouted r was exchanges made → AreRouted r now exchanges made
+pub routed_same : (r : Routing) (was now : List (Named Message)) (exchanges : List NamedShape) (made : ℕ) → SameNames was now → AreRouted r was exchanges made → AreRouted r now exchanges made
 routed_same r was now exchanges made same known = record {
   queue_names = λ other. known.queue_names other ∙ sym (same other);
   exchange_names = known.exchange_names;
   numbers = known.numbers;
 }
 
-pub routed_changed : (r : Routing) (queues : List Named) (exchanges : List NamedShape) (made : ℕ) (name : List ℕ) (change : StandingQueue → StandingQueue) → AreRouted r queues exchanges made → AreRouted r (changed name change queues) exchanges made
+pub routed_changed : (r : Routing) (queues : List (Named Message)) (exchanges : List NamedShape) (made : ℕ) (name : List ℕ) (change : Standing Message → Standing Message) → AreRouted r queues exchanges made → AreRouted r (changed name change queues) exchanges made
 routed_changed r queues exchanges made name change known = record {
   queue_names = λ other. known.queue_names other ∙ sym (stands_changed other name change queues);
   exchange_names = known.exchange_names;
   numbers = known.numbers;
 }
 
-pub routed_mapped : (r : Routing) (queues : List Named) (exchanges : List NamedShape) (made : ℕ) (change : StandingQueue → StandingQueue) → AreRouted r queues exchanges made → AreRouted r (all_changed change queues) exchanges made
+pub routed_mapped : (r : Routing) (queues : List (Named Message)) (exchanges : List NamedShape) (made : ℕ) (change : Standing Message → Standing Message) → AreRouted r queues exchanges made → AreRouted r (all_changed change queues) exchanges made
 routed_mapped r queues exchanges made change known = record {
   queue_names = λ other. known.queue_names other ∙ sym (stands_mapped other change queues);
   exchange_names = known.exchange_names;

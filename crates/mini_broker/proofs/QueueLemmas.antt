@@ -8,16 +8,11 @@ use Rattle.std.proofs.lemmas.Bool.{true≢false, false≢true}
 use Rattle.std.proofs.lemmas.List.Elements.{All-head, All-tail}
 use Rattle.indexmap.specs.IndexMap.{set_value_at}
 use Rattle.indexmap.proofs.MapLemmas.{Found-position}
-use Rattle.mini_broker.specs.declared.standing.StandingQueue.{StandingQueue}
-use Rattle.mini_broker.specs.Queues.{Named, queue_of, changed, all_changed}
+use Rattle.mini_broker.specs.Queues.{Standing, Named, named, queue_of, changed, all_changed}
 use Rattle.mini_broker.specs.Close.{others}
 
 abbrev pub Entries : Type 0 → Type 0
-Entries Z = List (String Z × StandingQueue)
-
--- the entries as contracts see them
-abbrev pub named : {Z : Type 0} → Entries Z → List Named
-named es = map (λ e. (string_bytes e.0, e.1)) es
+Entries Z = List (String Z × Standing ℕ)
 
 abbrev pub is_key : {Z : Type 0} → List ℕ → String Z → Bool
 is_key name key = bytes_eq name (string_bytes key)
@@ -26,7 +21,7 @@ pub lookup_named : {Z : Type 0} (name : List ℕ) (es : Entries Z) → queue_of 
 lookup_named name [] = refl
 lookup_named name (e ∷ es) = ap (λ r. cond (is_key name e.0) (Some e.1) r) (lookup_named name es)
 
-pub changed_absent : (name : List ℕ) (change : StandingQueue → StandingQueue) (queues : List Named) → queue_of name queues ≡ None → changed name change queues ≡ queues
+pub changed_absent : {M : Type 0} (name : List ℕ) (change : Standing M → Standing M) (queues : List (Named M)) → queue_of name queues ≡ None → changed name change queues ≡ queues
 changed_absent name change [] none = refl
 changed_absent name change (q ∷ queues) none =
     elim (bytes_eq name q.0) as (λ b. cond b (Some q.1) (queue_of name queues) ≡ None → cond b ((q.0, change q.1) ∷ queues) (q ∷ changed name change queues) ≡ q ∷ queues) [
@@ -38,7 +33,7 @@ same_some : {A : Type 0} {x y : A} → Some x ≡ Some y → x ≡ y
 same_some {A} {x} e = ap (λ r. unwrap_or r x) e
 
 -- a write at the first key of that name changes the queue of that name
-changed_first : {Z : Type 0} (name : List ℕ) (change : StandingQueue → StandingQueue) (es : Entries Z) (v w : StandingQueue) → slice_get (values_of es) (position_or_len (is_key name) (keys_of es)) ≡ Some v → w ≡ change v → named (set_value_at es (position_or_len (is_key name) (keys_of es)) w) ≡ changed name change (named es)
+changed_first : {Z : Type 0} (name : List ℕ) (change : Standing ℕ → Standing ℕ) (es : Entries Z) (v w : Standing ℕ) → slice_get (values_of es) (position_or_len (is_key name) (keys_of es)) ≡ Some v → w ≡ change v → named (set_value_at es (position_or_len (is_key name) (keys_of es)) w) ≡ changed name change (named es)
 changed_first name change [] v w at is = refl
 changed_first {Z} name change (e ∷ es) v w at is =
     let k = position_or_len (is_key name) (keys_of es) in
@@ -49,18 +44,18 @@ changed_first {Z} name change (e ∷ es) v w at is =
           subst (λ j. named (set_value_at (e ∷ es) j w) ≡ (string_bytes e.0, e.1) ∷ changed name change (named es)) (sym next) (ap (λ rest. (string_bytes e.0, e.1) ∷ rest) (changed_first name change es v w (subst (λ j. slice_get (values_of (e ∷ es)) j ≡ Some v) next at) is)))
     ] at
 
-pub changed_at : {Z : Type 0} (name : List ℕ) (change : StandingQueue → StandingQueue) (es : Entries Z) (i : ℕ) (v w : StandingQueue) → Some i ≡ position (is_key name) (keys_of es) → slice_get (values_of es) i ≡ Some v → w ≡ change v → named (set_value_at es i w) ≡ changed name change (named es)
+pub changed_at : {Z : Type 0} (name : List ℕ) (change : Standing ℕ → Standing ℕ) (es : Entries Z) (i : ℕ) (v w : Standing ℕ) → Some i ≡ position (is_key name) (keys_of es) → slice_get (values_of es) i ≡ Some v → w ≡ change v → named (set_value_at es i w) ≡ changed name change (named es)
 changed_at name change es i v w place at is =
     let first = (Found-position (is_key name) es i (sym place)).or_len in
     subst (λ j. named (set_value_at es j w) ≡ changed name change (named es)) first (changed_first name change es v w (subst (λ j. slice_get (values_of es) j ≡ Some v) (sym first) at) is)
 
 -- what is written is what stood there
-pub set_same : {Z : Type 0} (es : Entries Z) (i : ℕ) (v w : StandingQueue) → slice_get (values_of es) i ≡ Some v → w ≡ v → set_value_at es i w ≡ es
+pub set_same : {Z : Type 0} (es : Entries Z) (i : ℕ) (v w : Standing ℕ) → slice_get (values_of es) i ≡ Some v → w ≡ v → set_value_at es i w ≡ es
 set_same [] i v w at is = refl
 set_same (e ∷ es) zero v w at is = ap (λ x. (e.0, x) ∷ es) (is ∙ sym (same_some at))
 set_same (e ∷ es) (suc i) v w at is = ap (λ rest. e ∷ rest) (set_same es i v w at is)
 
-pub all_at : {Z : Type 0} (P : StandingQueue → Type 0) (es : Entries Z) (i : ℕ) (v : StandingQueue) → All (λ q. P q.1) (named es) → slice_get (values_of es) i ≡ Some v → P v
+pub all_at : {Z : Type 0} (P : Standing ℕ → Type 0) (es : Entries Z) (i : ℕ) (v : Standing ℕ) → All (λ q. P q.1) (named es) → slice_get (values_of es) i ≡ Some v → P v
 all_at P [] i v all at = absurd (true≢false (sym (ap is_some at)))
 all_at P (e ∷ es) zero v all at = subst P (same_some at) (All-head (λ q. P q.1) (string_bytes e.0, e.1) (named es) all)
 all_at P (e ∷ es) (suc i) v all at = all_at P es i v (All-tail (λ q. P q.1) (string_bytes e.0, e.1) (named es) all) at
@@ -72,6 +67,10 @@ on_ok (Err e) f p = p
 pub on_err : {A F : Type 0} {P Q : Type 0} (r : Result A F) → (P → Q) → OnErr r P → OnErr r Q
 on_err (Ok a) f p = p
 on_err (Err e) f p = f p
+
+pub always_err : {A F : Type 0} {P : Type 0} (r : Result A F) → P → OnErr r P
+always_err (Ok a) p = tt
+always_err (Err e) p = p
 
 pub if_some : {A : Type 0} {P Q : A → Type 0} (r : Option A) → ((a : A) → P a → Q a) → IfSome r P → IfSome r Q
 if_some (Some a) f p = f a p
@@ -86,29 +85,29 @@ not_some None e = refl
 not_some (Some a) e = absurd (false≢true e)
 
 -- there is no queue of that name
-pub absent : {Z : Type 0} (name : List ℕ) (es : Entries Z) (queues : List Named) → named es ≡ queues → false ≡ is_some (lookup (is_key name) es) → queue_of name queues ≡ None
+pub absent : {Z : Type 0} (name : List ℕ) (es : Entries Z) (queues : List (Named ℕ)) → named es ≡ queues → false ≡ is_some (lookup (is_key name) es) → queue_of name queues ≡ None
 absent name es queues view none = ap (queue_of name) (sym view) ∙ lookup_named name es ∙ not_some (lookup (is_key name) es) none
 
 -- the queue of that name is at that place
-pub present : {Z : Type 0} (name : List ℕ) (es : Entries Z) (queues : List Named) (i : ℕ) (v : StandingQueue) → named es ≡ queues → slice_get (values_of es) i ≡ lookup (is_key name) es → slice_get (values_of es) i ≡ Some v → queue_of name queues ≡ Some v
+pub present : {Z : Type 0} (name : List ℕ) (es : Entries Z) (queues : List (Named ℕ)) (i : ℕ) (v : Standing ℕ) → named es ≡ queues → slice_get (values_of es) i ≡ lookup (is_key name) es → slice_get (values_of es) i ≡ Some v → queue_of name queues ≡ Some v
 present name es queues i v view found at = ap (queue_of name) (sym view) ∙ lookup_named name es ∙ sym found ∙ at
 
 -- a write there changes it
-pub written : {Z : Type 0} (name : List ℕ) (change : StandingQueue → StandingQueue) (es : Entries Z) (queues : List Named) (i : ℕ) (v w : StandingQueue) → named es ≡ queues → Some i ≡ position (is_key name) (keys_of es) → slice_get (values_of es) i ≡ Some v → w ≡ change v → named (set_value_at es i w) ≡ changed name change queues
+pub written : {Z : Type 0} (name : List ℕ) (change : Standing ℕ → Standing ℕ) (es : Entries Z) (queues : List (Named ℕ)) (i : ℕ) (v w : Standing ℕ) → named es ≡ queues → Some i ≡ position (is_key name) (keys_of es) → slice_get (values_of es) i ≡ Some v → w ≡ change v → named (set_value_at es i w) ≡ changed name change queues
 written name change es queues i v w view place at is = changed_at name change es i v w place at is ∙ ap (changed name change) view
 
 -- a write of what stood there changes nothing
-pub rewritten : {Z : Type 0} (es : Entries Z) (queues : List Named) (i : ℕ) (v w : StandingQueue) → named es ≡ queues → slice_get (values_of es) i ≡ Some v → w ≡ v → named (set_value_at es i w) ≡ queues
+pub rewritten : {Z : Type 0} (es : Entries Z) (queues : List (Named ℕ)) (i : ℕ) (v w : Standing ℕ) → named es ≡ queues → slice_get (values_of es) i ≡ Some v → w ≡ v → named (set_value_at es i w) ≡ queues
 rewritten es queues i v w view at is = ap named (set_same es i v w at is) ∙ view
 
 abbrev list : {Z : Type 0} → Entries Z → Entries Z
 list es = es
 
 -- one more queue is changed
-pub swept_more : {Z : Type 0} (change : StandingQueue → StandingQueue) (was now : Entries Z) (i : ℕ) (v w : StandingQueue) → now ≡ map (λ e. (e.0, change e.1)) (take i was) ++ drop i was → slice_get (values_of now) i ≡ Some v → w ≡ change v → set_value_at now i w ≡ map (λ e. (e.0, change e.1)) (take (suc i) was) ++ drop (suc i) was
+pub swept_more : {Z : Type 0} (change : Standing ℕ → Standing ℕ) (was now : Entries Z) (i : ℕ) (v w : Standing ℕ) → now ≡ map (λ e. (e.0, change e.1)) (take i was) ++ drop i was → slice_get (values_of now) i ≡ Some v → w ≡ change v → set_value_at now i w ≡ map (λ e. (e.0, change e.1)) (take (suc i) was) ++ drop (suc i) was
 swept_more {Z} change [] now i v w so at is = absurd (true≢false (sym (ap is_some at) ∙ gone i))
   where
-    none : (j : ℕ) → map (λ (e : String Z × StandingQueue). (e.0, change e.1)) (take j (list [])) ++ drop j (list []) ≡ list []
+    none : (j : ℕ) → map (λ (e : String Z × Standing ℕ). (e.0, change e.1)) (take j (list [])) ++ drop j (list []) ≡ list []
     none zero = refl
     none (suc j) = refl
 
@@ -120,11 +119,11 @@ swept_more {Z} change (e ∷ was) now (suc i) v w so at is =
     ap (λ es. set_value_at es (suc i) w) so
     ∙ ap (λ rest. (e.0, change e.1) ∷ rest) (swept_more change was (map (λ e. (e.0, change e.1)) (take i was) ++ drop i was) i v w refl (ap (λ es. slice_get (values_of es) (suc i)) (sym so) ∙ at) is)
 
-pub named_swept : {Z : Type 0} (change : StandingQueue → StandingQueue) (es : Entries Z) → named (map (λ e. (e.0, change e.1)) es) ≡ all_changed change (named es)
+pub named_swept : {Z : Type 0} (change : Standing ℕ → Standing ℕ) (es : Entries Z) → named (map (λ e. (e.0, change e.1)) es) ≡ all_changed change (named es)
 named_swept change [] = refl
 named_swept change (e ∷ es) = ap (λ rest. (string_bytes e.0, change e.1) ∷ rest) (named_swept change es)
 
-pub any_named : {Z : Type 0} (test : StandingQueue → Bool) (es : Entries Z) → list_any test (values_of es) ≡ list_any (λ q. test q.1) (named es)
+pub any_named : {Z : Type 0} (test : Standing ℕ → Bool) (es : Entries Z) → list_any test (values_of es) ≡ list_any (λ q. test q.1) (named es)
 any_named test [] = refl
 any_named test (e ∷ es) = ap (λ b. test e.1 || b) (any_named test es)
 

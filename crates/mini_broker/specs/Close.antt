@@ -19,7 +19,7 @@ abbrev pub consumes_from : List ℕ → Consumer → Bool
 consumes_from name consumer = bytes_eq consumer.queue name
 
 -- what the channels of the connection held is ready again (RabbitMQ, Consumer Acknowledgements: automatic requeueing); `number` is that of the first client
-abbrev pub freed_from : ℕ → ℕ → List Client → List Named → List Named
+abbrev pub freed_from : {M : Type 0} → ℕ → ℕ → List Client → List (Named M) → List (Named M)
 freed_from connection number [] queues = queues
 freed_from connection number (client ∷ clients) queues =
     freed_from connection (number + 1) clients (if client.connection == connection then all_changed (with_mail (released_from number)) queues else queues)
@@ -40,11 +40,11 @@ without_queue name v = record v {
 }
 
 -- the connection has the queue to itself (AMQP 0-9-1, queue.declare: exclusive)
-abbrev pub is_owned : ℕ → Named → Bool
+abbrev pub is_owned : {M : Type 0} → ℕ → Named M → Bool
 is_owned connection q = q.1.options.exclusive && option_map_or (λ owner. owner == connection) q.1.owner false
 
 -- the queues that the connection has to itself, in the order of making (AMQP 0-9-1, queue.declare: exclusive)
-abbrev pub owned_names : ℕ → List Named → List (List ℕ)
+abbrev pub owned_names : {M : Type 0} → ℕ → List (Named M) → List (List ℕ)
 owned_names connection queues = map (λ q. q.0) (filter (is_owned connection) queues)
 
 -- the connection ends, and the queues that it has to itself go with it (AMQP 0-9-1, queue.declare: exclusive)
@@ -52,10 +52,10 @@ abbrev pub closed : ℕ → VhostState → VhostState
 closed connection v = fold (λ v name. without_queue name v) (disconnected connection v) (owned_names connection v.queues)
 
 -- the queues but that of the name (AMQP 0-9-1, queue.delete)
-abbrev pub others : List ℕ → List Named → List Named
+abbrev pub others : {M : Type 0} → List ℕ → List (Named M) → List (Named M)
 others name queues = filter (λ q. not (bytes_eq q.0 name)) queues
 
 -- each of these queues still stands once those before it are gone
-abbrev pub StandInTurn : List (List ℕ) → List Named → Type 0
+abbrev pub StandInTurn : {M : Type 0} → List (List ℕ) → List (Named M) → Type 0
 StandInTurn [] queues = Unit {0}
 StandInTurn (name ∷ names) queues = (is_some (queue_of name queues) ≡ true) × StandInTurn names (others name queues)

@@ -7,14 +7,13 @@ use Rattle.fed_journal.specs.declared.place.Client.{Client}
 use Rattle.mini_broker.specs.declared.consumer.Consumer.{Consumer}
 use Rattle.mini_broker.specs.declared.fault.ClientFault.{ClientFault}
 use Rattle.mini_broker.specs.declared.fault.ClientFault.TheVariants.{Refused}
-use Rattle.mini_broker.specs.declared.standing.StandingQueue.{StandingQueue}
 use Rattle.mini_broker.specs.Consumers.{is_client, is_consumer}
 use Rattle.mini_broker.specs.Declare.{is_locked}
-use Rattle.mini_broker.specs.Queues.{queue_of}
+use Rattle.mini_broker.specs.Queues.{Standing, queue_of}
 use Rattle.mini_broker.specs.State.{VhostState}
 
 -- NOT_FOUND (404) for a queue that isn't there, RESOURCE_LOCKED (405) for another's (AMQP 0-9-1, 1.2)
-abbrev pub refusal_at : Client → Option StandingQueue → Option ClientFault
+abbrev pub refusal_at : {M : Type 0} → Client → Option (Standing M) → Option ClientFault
 refusal_at who None = Some (Refused 404)
 refusal_at who (Some queue) = if is_locked who queue then Some (Refused 405) else None
 

@@ -9,10 +9,9 @@ use Rattle.fed_journal.specs.declared.place.Client.{Client}
 use Rattle.fed_journal.specs.declared.place.ExchangeShape.{ExchangeShape}
 use Rattle.mini_broker.specs.declared.fault.ClientFault.{ClientFault}
 use Rattle.mini_broker.specs.declared.fault.ClientFault.TheVariants.{Refused}
-use Rattle.mini_broker.specs.declared.standing.StandingQueue.{StandingQueue}
 use Rattle.mini_broker.specs.Mail.{empty}
 use Rattle.mini_broker.specs.Names.{is_refused_queue, is_refused_exchange}
-use Rattle.mini_broker.specs.Queues.{queue_of}
+use Rattle.mini_broker.specs.Queues.{Standing, queue_of}
 use Rattle.mini_broker.specs.Exchanges.{shape_of}
 use Rattle.mini_broker.specs.State.{VhostState}
 
@@ -21,7 +20,7 @@ abbrev pub is_other : Client → Option ℕ → Bool
 is_other who None = false
 is_other who (Some connection) = not (connection == who.connection)
 
-abbrev pub is_locked : Client → StandingQueue → Bool
+abbrev pub is_locked : {M : Type 0} → Client → Standing M → Bool
 is_locked who queue = is_other who queue.owner
 
 -- both flags are set, or neither
@@ -33,7 +32,7 @@ abbrev pub same_options : QueueOptions → QueueOptions → Bool
 same_options a b = same_flag a.durable b.durable && same_flag a.exclusive b.exclusive && same_flag a.auto_delete b.auto_delete
 
 -- RESOURCE_LOCKED (405) for another's queue, PRECONDITION_FAILED (406) where it stands with other options (RabbitMQ, Queues: Property Equivalence)
-abbrev pub declared_again : Client → QueueOptions → Option StandingQueue → Result Bool ClientFault
+abbrev pub declared_again : {M : Type 0} → Client → QueueOptions → Option (Standing M) → Result Bool ClientFault
 declared_again who options None = Ok true
 declared_again who options (Some queue) =
     if is_locked who queue then Err (Refused 405) else if same_options queue.options options then Ok false else Err (Refused 406)
@@ -47,7 +46,7 @@ declare_answer who name options v =
 abbrev pub owner_of : Client → QueueOptions → Option ℕ
 owner_of who options = if options.exclusive then Some who.connection else None
 
-abbrev pub made_queue : ℕ → QueueOptions → Option ℕ → StandingQueue
+abbrev pub made_queue : {M : Type 0} → ℕ → QueueOptions → Option ℕ → Standing M
 made_queue number options owner = record { number = number; options = options; owner = owner; mail = empty }
 
 -- the queue stands as the last

@@ -4,6 +4,7 @@ pub mod Declare
 pub mod Exchanges
 pub mod Inside
 pub mod Mail
+pub mod Messages
 pub mod Names
 pub mod Queues
 pub mod State

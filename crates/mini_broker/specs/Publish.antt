@@ -29,7 +29,7 @@ abbrev pub reached : Message → VhostState → List (List ℕ)
 reached m v = routed_names v.routing (publish m.exchange m.key (headers_of m))
 
 -- each of the queues gets a copy, numbered in their order (AMQP 0-9-1, 3.1.3)
-abbrev pub all_entered : List (List ℕ) → ℕ → Message → List Named → List Named
+abbrev pub all_entered : {M : Type 0} → List (List ℕ) → ℕ → M → List (Named M) → List (Named M)
 all_entered [] number m queues = queues
 all_entered (name ∷ names) number m queues = all_entered names (number + 1) m (changed name (with_mail (entered number m)) queues)
 

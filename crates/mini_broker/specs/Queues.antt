@@ -1,5 +1,5 @@
 -- The queues of a virtual host under their names, in the order of making (AMQP 0-9-1, 3.1.1 "The Message Queue").
-use Rattle.std.specs.Prelude.{ℕ, ◌<◌, Bool, if◌then◌else◌, List, [], ◌∷◌, Option, All, count_by, length, map}
+use Rattle.std.specs.Prelude.{ℕ, ◌<◌, Bool, String, string_bytes, if◌then◌else◌, List, [], ◌∷◌, Option, All, count_by, length, map}
 use Rattle.std.specs.List.{list_any}
 use Rattle.std.specs.Option.{option_and_then, option_map_or}
 use Rattle.std.specs.Map.{lookup}
@@ -8,56 +8,72 @@ use Rattle.queue_core.specs.declared.rows.Row.{Row}
 use Rattle.queue_core.specs.Rows as rows
 use Rattle.mini_broker.specs.declared.standing.StandingQueue.{StandingQueue}
 use Rattle.mini_broker.specs.declared.mailbox.CopyMessage.{CopyMessage}
-use Rattle.mini_broker.specs.Mail.{Mail, first_copy, is_held_at}
+use Rattle.mini_broker.specs.Mail.{Mail, empty, first_copy, is_held_at}
+
+-- a queue that was declared, whose copies carry these
+abbrev pub Standing : Type 0 → Type 0
+Standing M = StandingQueue (Mail M)
 
 -- a queue under its name
-abbrev pub Named : Type 0
-Named = List ℕ × StandingQueue
+abbrev pub Named : Type 0 → Type 0
+Named M = List ℕ × Standing M
 
-abbrev pub queue_of : List ℕ → List Named → Option StandingQueue
+-- a table under the names that contracts see
+abbrev pub named : {Z B : Type 0} → List (String Z × B) → List (List ℕ × B)
+named es = map (λ e. (string_bytes e.0, e.1)) es
+
+-- a queue without what its copies carry
+abbrev pub bare_queue : {M : Type 0} → Standing M → StandingQueue (List Row)
+bare_queue q = record { number = q.number; options = q.options; owner = q.owner; mail = q.mail.rows }
+
+-- a queue of these options without copies
+abbrev pub emptied : {A B : Type 0} → Standing A → Standing B
+emptied q = record { number = q.number; options = q.options; owner = q.owner; mail = empty }
+
+abbrev pub queue_of : {M : Type 0} → List ℕ → List (Named M) → Option (Standing M)
 queue_of name queues = lookup (bytes_eq name) queues
 
 -- the copies of the queue
-abbrev pub rows_of : List ℕ → List Named → List Row
+abbrev pub rows_of : {M : Type 0} → List ℕ → List (Named M) → List Row
 rows_of name queues = option_map_or (λ queue. queue.mail.rows) (queue_of name queues) []
 
 -- one queue is changed
-abbrev pub changed : List ℕ → (StandingQueue → StandingQueue) → List Named → List Named
+abbrev pub changed : {M : Type 0} → List ℕ → (Standing M → Standing M) → List (Named M) → List (Named M)
 changed name change [] = []
 changed name change (q ∷ queues) = if bytes_eq name q.0 then (q.0, change q.1) ∷ queues else q ∷ changed name change queues
 
 -- every queue is changed
-abbrev pub all_changed : (StandingQueue → StandingQueue) → List Named → List Named
+abbrev pub all_changed : {M : Type 0} → (Standing M → Standing M) → List (Named M) → List (Named M)
 all_changed change queues = map (λ q. (q.0, change q.1)) queues
 
 -- the copies of a queue are changed
-abbrev pub with_mail : (Mail → Mail) → StandingQueue → StandingQueue
+abbrev pub with_mail : {M : Type 0} → (Mail M → Mail M) → Standing M → Standing M
 with_mail change queue = record queue { mail = change queue.mail }
 
 -- a copy of this number would be the last of the queue, as copies are numbered in the order in which they enter
-abbrev pub IsLast : ℕ → StandingQueue → Type 0
+abbrev pub IsLast : {M : Type 0} → ℕ → Standing M → Type 0
 IsLast number queue = rows.IsAbove queue.mail.rows number × All (λ copy. copy.number < number) queue.mail.copies
 
 -- and of each queue
-abbrev pub AreAbove : ℕ → List Named → Type 0
+abbrev pub AreAbove : {M : Type 0} → ℕ → List (Named M) → Type 0
 AreAbove number queues = All (λ q. IsLast number q.1) queues
 
 -- what the queue would hand out now (AMQP 0-9-1, basic.get)
-abbrev pub ready_in : List ℕ → List Named → Option ℕ
+abbrev pub ready_in : {M : Type 0} → List ℕ → List (Named M) → Option ℕ
 ready_in name queues = option_and_then (λ queue. rows.first_ready queue.mail.rows) (queue_of name queues)
 
 -- the same with its message
-abbrev pub first_in : List ℕ → List Named → Option CopyMessage
+abbrev pub first_in : {M : Type 0} → List ℕ → List (Named M) → Option (CopyMessage M)
 first_in name queues = option_and_then (λ queue. first_copy queue.mail) (queue_of name queues)
 
 -- how many copies are ready (AMQP 0-9-1, queue.declare-ok: message-count)
-abbrev pub ready_count : List ℕ → List Named → ℕ
+abbrev pub ready_count : {M : Type 0} → List ℕ → List (Named M) → ℕ
 ready_count name queues = option_map_or (λ queue. count_by rows.is_ready queue.mail.rows) (queue_of name queues) 0
 
 -- how many copies there are, ready or held
-abbrev pub copy_count : List ℕ → List Named → ℕ
+abbrev pub copy_count : {M : Type 0} → List ℕ → List (Named M) → ℕ
 copy_count name queues = option_map_or (λ queue. length queue.mail.rows) (queue_of name queues) 0
 
 -- a consumer of the client holds the copy (AMQP 0-9-1, Acknowledgements)
-abbrev pub is_held_in : ℕ → ℕ → List Named → Bool
+abbrev pub is_held_in : {M : Type 0} → ℕ → ℕ → List (Named M) → Bool
 is_held_in client number queues = list_any (λ q. is_held_at client number q.1.mail) queues

@@ -15,7 +15,7 @@ use Rattle.mini_broker.specs.State.{VhostState}
 abbrev pub number_in : Client → VhostState → Option ℕ
 number_in who v = position (is_client who) v.clients
 
-abbrev pub holds_as : Option ℕ → ℕ → List Named → Bool
+abbrev pub holds_as : {M : Type 0} → Option ℕ → ℕ → List (Named M) → Bool
 holds_as None copy queues = false
 holds_as (Some number) copy queues = is_held_in number copy queues
 

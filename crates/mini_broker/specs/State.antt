@@ -4,6 +4,7 @@ use Rattle.route_core.specs.declared.object.Sort.TheVariants as sorts
 use Rattle.route_core.specs.declared.object.Node.TheVariants as nodes
 use Rattle.route_core.specs.Objects.{has}
 use Rattle.route_core.specs.Routing.{Routing, IsNext}
+use Rattle.amqp_props.specs.declared.message.Message.{Message}
 use Rattle.fed_journal.specs.declared.place.Client.{Client}
 use Rattle.mini_broker.specs.declared.consumer.Consumer.{Consumer}
 use Rattle.mini_broker.specs.Queues.{Named, queue_of}
@@ -14,7 +15,7 @@ use Rattle.mini_broker.specs.Exchanges.{NamedShape, shape_of}
 -- how many queues were made and how many consumers began.
 pub record VhostState : Type 0 where
   pub routing : Routing
-  pub queues : List Named
+  pub queues : List (Named Message)
   pub exchanges : List NamedShape
   pub clients : List Client
   pub consumers : List Consumer
@@ -22,11 +23,11 @@ pub record VhostState : Type 0 where
   pub begun : ℕ
 
 -- the router knows the queues and exchanges that stand
-pub record AreRouted (routing : Routing) (queues : List Named) (exchanges : List NamedShape) (made : ℕ) : Type 0 where
+pub record AreRouted (routing : Routing) (queues : List (Named Message)) (exchanges : List NamedShape) (made : ℕ) : Type 0 where
   pub queue_names : (name : List ℕ) → has sorts.Queue name routing.objects ≡ is_some (queue_of name queues)
   pub exchange_names : (name : List ℕ) → has sorts.Exchange name routing.objects ≡ is_some (shape_of name exchanges)
   pub numbers : IsNext (nodes.Queue made) routing
 
 -- queues of the same names
-abbrev pub SameNames : List Named → List Named → Type 0
+abbrev pub SameNames : {M : Type 0} → List (Named M) → List (Named M) → Type 0
 SameNames was now = (name : List ℕ) → is_some (queue_of name now) ≡ is_some (queue_of name was)

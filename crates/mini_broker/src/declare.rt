@@ -6,7 +6,8 @@ ghost use Rattle.route_core.specs.declared.object.Sort.TheVariants as sorts;
 ghost use Rattle.route_core.specs.declared.object.Node.TheVariants as nodes;
 ghost use Rattle.route_core.specs.Routing.{stands, IsNext, with_object};
 ghost use Rattle.mini_broker.specs.Answers.{IsAnswer};
-ghost use Rattle.mini_broker.specs.Queues.{queue_of};
+ghost use Rattle.mini_broker.specs.Mail.{empty};
+ghost use Rattle.mini_broker.specs.Queues.{queue_of, emptied};
 ghost use Rattle.mini_broker.specs.Exchanges.{shape_of, declared_shape};
 ghost use Rattle.mini_broker.specs.Declare.{is_locked as is_queue_locked, same_options as options_are_same, declared_again as queue_again, declare_answer, owner_of as owner_by, with_queue, same_kind as kinds_are_same, same_shape as shapes_are_same, declared_exchange_again as exchange_again, declare_exchange_answer, with_exchange};
 
@@ -23,7 +24,7 @@ use route_core::{Node, Router};
 use std::alloc::{AllocError, Global};
 
 /// Whether another connection has the queue to itself.
-pub(crate) fn is_locked(who: Client, queue: &StandingQueue) -> bool
+pub(crate) fn is_locked(who: Client, queue: &StandingQueue<Mailbox>) -> bool
     ensures { result ≡ is_queue_locked who queue.now }
 {
     match queue.owner {
@@ -84,13 +85,14 @@ fn stand_queue(
     router: &mut Router,
     queues: &mut Queues,
     name: &str,
-    queue: StandingQueue,
+    queue: StandingQueue<Mailbox>,
 ) -> Result<(), AllocError>
     requires free { stands sorts.Queue name.now router.old.routing ≡ false }
     requires next { IsNext (nodes.Queue queue.number) router.old.routing }
     requires absent { queue_of name.now queues.old ≡ None }
+    requires bare { queue.mail ≡ empty }
     ensures routing { OnOk result (router.new.routing ≡ with_object name.now (nodes.Queue queue.number) router.old.routing) }
-    ensures queues { OnOk result (queues.new ≡ queues.old ++ (name.now, queue) ∷ []) }
+    ensures queues { OnOk result (queues.new ≡ queues.old ++ (name.now, emptied queue) ∷ []) }
     ensures same_routing { OnErr result (router.new.routing ≡ router.old.routing) }
     ensures same_queues { OnErr result (queues.new ≡ queues.old) }
 {
@@ -135,7 +137,7 @@ fn stand_exchange(
 fn declared_again(
     who: Client,
     options: QueueOptions,
-    queue: &StandingQueue,
+    queue: &StandingQueue<Mailbox>,
 ) -> Result<bool, ClientFault>
     ensures answer { result ≡ queue_again who options (Some queue.now) }
     ensures old { result ≢ Ok true }

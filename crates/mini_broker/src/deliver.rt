@@ -68,14 +68,11 @@ fn first_offer(alloc: Global, queues: &Queues, name: &str) -> Result<Option<Deli
     ensures ready { IfOk result (λ offer. option_map (λ delivered. delivered.copy) offer ≡ ready_in name.now queues.now) }
     ensures err { OnErr result (IsSome (offer_of name.now queues.now)) }
 {
-    let Some(queue) = queues.find(name) else {
-        return Ok(None);
-    };
-    let Some(copy) = queue.mail.first() else {
+    let Some((copy, message)) = queues.first(name) else {
         return Ok(None);
     };
     let name = Text::from_str(alloc, name)?;
-    let message = copy.message.as_message().clone()?;
+    let message = message.clone()?;
     Ok(Some(Delivered {
         copy: copy.number,
         queue: name,

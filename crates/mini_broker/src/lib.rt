@@ -13,12 +13,12 @@ mod deliver;
 mod exchanges;
 mod fault;
 mod mailbox;
+mod messages;
 mod names;
 mod publish;
 mod queues;
 mod record;
 mod settle;
-mod shared;
 mod standing;
 mod vhost;
 
@@ -31,9 +31,9 @@ pub use exchanges::Exchanges;
 pub use fault::ClientFault;
 pub use fed_journal::place::{Client, ExchangeShape};
 pub use mailbox::{CopyMessage, Mailbox, Sweep};
+pub use messages::{Kept, Messages};
 pub use publish::Accepted;
 pub use queues::Queues;
-pub use shared::Shared;
 pub use standing::StandingQueue;
 pub use vhost::Vhost;
 

@@ -4,21 +4,22 @@ ghost use Rattle.std.specs.Prelude.{◌≡◌, ◌==◌, ◌<◌, [], ◌∷◌,
 ghost use Rattle.std.specs.Option.{option_copied, option_map};
 ghost use Rattle.queue_core.specs.Rows.{IsAbove, first_ready, is_ready, is_held_by, has, has_held, holder_of};
 ghost use Rattle.mini_broker.specs.Mail.{empty, entered, fresh, handed, given, left, released, released_from, purged, stored, as_seen, copy_of, first_copy, swept, is_held_at as is_held_by_client};
+ghost use Rattle.mini_broker.specs.Messages.{Covers, Follows};
 
-use crate::shared::Shared;
+use crate::messages::{Messages, free_all, free_numbered, free_unheld};
 use queue_core::{CopyNo, Holder, Queue, Row};
 use std::alloc::{AllocError, Global};
 use std::marker::Model;
 
-/// A copy's message, and whether the copy was handed out before.
+/// What a copy carries, and whether the copy was handed out before.
 #[derive(Drop)]
-pub struct CopyMessage {
+pub struct CopyMessage<M> {
     /// The copy's number.
     pub number: CopyNo,
     /// Whether it was handed out before (AMQP 0-9-1, basic.deliver: redelivered).
     pub again: bool,
-    /// What was published.
-    pub message: Shared,
+    /// What was published, or the key under which it is kept.
+    pub message: M,
 }
 
 /// What is done to every queue.
@@ -55,21 +56,21 @@ pub enum Sweep {
     Requeue(CopyNo),
 }
 
-/// The copies of a queue.
+/// The copies of a queue, with the keys of their messages.
 #[derive(Drop)]
 pub struct Mailbox {
     queue: Queue,
-    copies: Vec<CopyMessage>,
+    copies: Vec<CopyMessage<usize>>,
 }
 
 impl Model for Mailbox {
     ghost use Rattle.mini_broker.specs.Mail.{Mail, HaveMessages};
     ghost use Rattle.std.specs.Coded.{codes};
-    ghost use Rattle.mini_broker.specs.contracts.mailbox.CopyMessage as copy;
+    ghost use Prim.Native.Nat.{ℕ};
 
-    ghost Value = { Mail };
+    ghost Value = { Mail ℕ };
 
-    ghost coded = { Prim.hlevel (codes, copy.the_row.coded) };
+    ghost coded = { Prim.hlevel (codes) };
 
     ghost view = { λ m. record { rows = m.queue; copies = m.copies.items } };
 
@@ -94,19 +95,19 @@ impl Mailbox {
         self.queue.rows()
     }
 
-    /// Lets a copy enter at the tail.
+    /// Lets a copy with its message's key enter at the tail.
     ///
     /// # Errors
     ///
     /// For want of memory; the mailbox is then as it was.
-    pub fn enter(&mut self, number: CopyNo, message: Shared) -> Result<(), AllocError>
+    pub fn enter(&mut self, number: CopyNo, key: usize) -> Result<(), AllocError>
         requires { IsAbove self.old.rows number }
-        ensures ok { OnOk result (self.new ≡ entered number message self.old) }
+        ensures ok { OnOk result (self.new ≡ entered number key self.old) }
         ensures err { OnErr result (self.new ≡ self.old) }
     {
         self.copies.reserve(1)?;
         self.queue.enter(number)?;
-        add(&mut self.copies, number, message);
+        add(&mut self.copies, number, key);
         Ok(())
     }
 
@@ -130,21 +131,39 @@ impl Mailbox {
     }
 
     /// Hands out the first ready copy, to the holder or for good; None exactly where none is ready.
-    pub fn hand_out(&mut self, holder: Holder, no_ack: bool) -> Option<CopyNo>
+    pub fn hand_out(
+        &mut self,
+        messages: &mut Messages,
+        holder: Holder,
+        no_ack: bool,
+    ) -> Option<CopyNo>
+        requires { Covers messages.old self.old.copies }
         ensures first { result ≡ first_ready self.old.rows }
         ensures given { IfSome result (λ number. self.new ≡ given number holder no_ack self.old) }
         ensures none { IfNone result (self.new ≡ self.old) }
+        ensures follows { Follows messages.old messages.new self.old.copies self.new.copies }
     {
         if !no_ack {
             return self.hand(holder);
         }
         let number = self.queue.first_ready()?;
-        self.leave(number);
+        self.leave(messages, number);
         Some(number)
     }
 
     /// Removes the copy; false exactly where it isn't there.
-    pub fn leave(&mut self, number: CopyNo) -> bool
+    pub fn leave(&mut self, messages: &mut Messages, number: CopyNo) -> bool
+        requires { Covers messages.old self.old.copies }
+        ensures there { result ≡ has number self.old.rows }
+        ensures left { self.new ≡ left number self.old }
+        ensures follows { Follows messages.old messages.new self.old.copies self.new.copies }
+    {
+        free_numbered(messages, &self.copies, number);
+        self.withdraw(number)
+    }
+
+    /// Removes the copy, whose message isn't kept yet; false exactly where it isn't there.
+    pub fn withdraw(&mut self, number: CopyNo) -> bool
         ensures there { result ≡ has number self.old.rows }
         ensures left { self.new ≡ left number self.old }
     {
@@ -169,13 +188,24 @@ impl Mailbox {
     }
 
     /// Removes each ready copy, and gives how many there were.
-    pub fn purge(&mut self) -> u64
+    pub fn purge(&mut self, messages: &mut Messages) -> u64
+        requires { Covers messages.old self.old.copies }
         ensures count { result ≡ count_by is_ready self.old.rows }
         ensures purged { self.new ≡ purged self.old }
+        ensures follows { Follows messages.old messages.new self.old.copies self.new.copies }
     {
         let count = self.queue.purge();
+        free_unheld(messages, &self.copies, &self.queue);
         keep_held(&mut self.copies, &self.queue);
         count
+    }
+
+    /// Every copy is gone, as the queue goes.
+    pub fn free(&self, messages: &mut Messages)
+        requires { Covers messages.old self.now.copies }
+        ensures { Follows messages.old messages.new self.now.copies [] }
+    {
+        free_all(messages, &self.copies);
     }
 
     /// Marks each copy as stored.
@@ -196,14 +226,16 @@ impl Mailbox {
     }
 
     /// Does what is done to every queue.
-    pub fn sweep(&mut self, sweep: Sweep)
-        ensures { self.new ≡ swept sweep self.old }
+    pub fn sweep(&mut self, messages: &mut Messages, sweep: Sweep)
+        requires { Covers messages.old self.old.copies }
+        ensures swept { self.new ≡ swept sweep self.old }
+        ensures follows { Follows messages.old messages.new self.old.copies self.new.copies }
     {
         match sweep {
             Sweep::Store => self.mark_stored(),
             Sweep::Free(client) => self.release_client(client),
             Sweep::Leave { client, number } if self.is_held_at(client, number) => {
-                self.leave(number);
+                self.leave(messages, number);
             }
             Sweep::Release { client, number } if self.is_held_at(client, number) => {
                 self.release(number);
@@ -211,7 +243,7 @@ impl Mailbox {
             Sweep::Leave { .. } | Sweep::Release { .. } => {}
             Sweep::Hand { number, holder } => self.hand_copy(number, holder),
             Sweep::Settle(number) => {
-                self.leave(number);
+                self.leave(messages, number);
             }
             Sweep::Requeue(copy) => {
                 self.release(copy);
@@ -220,7 +252,7 @@ impl Mailbox {
     }
 
     /// What `hand` would hand out now; None exactly where no copy is ready.
-    pub fn first(&self) -> Option<&CopyMessage>
+    pub fn first(&self) -> Option<&CopyMessage<usize>>
         ensures first { option_copied result ≡ first_copy self.now }
         ensures ready { option_map (λ copy. copy.now.number) result ≡ first_ready self.now.rows }
     {
@@ -265,14 +297,14 @@ impl Mailbox {
 }
 
 /// The copy of that number.
-fn find_copy(copies: &[CopyMessage], number: CopyNo) -> Option<&CopyMessage>
+fn find_copy(copies: &[CopyMessage<usize>], number: CopyNo) -> Option<&CopyMessage<usize>>
     ensures { option_copied result ≡ copy_of number copies.now }
 {
     copies.iter().find(|copy| copy.number == number)
 }
 
 /// From now on the copy counts as handed out before.
-fn see(copies: &mut Vec<CopyMessage>, number: CopyNo)
+fn see(copies: &mut Vec<CopyMessage<usize>>, number: CopyNo)
     ensures { copies.new.items ≡ map (as_seen number) copies.old.items }
 {
     for copy in copies.iter_mut() {
@@ -281,28 +313,28 @@ fn see(copies: &mut Vec<CopyMessage>, number: CopyNo)
 }
 
 /// Removes the copy.
-fn remove(copies: &mut Vec<CopyMessage>, number: CopyNo)
+fn remove(copies: &mut Vec<CopyMessage<usize>>, number: CopyNo)
     ensures { copies.new.items ≡ filter (λ copy. not (copy.number == number)) copies.old.items }
 {
     copies.retain(|copy| copy.number != number);
 }
 
 /// Keeps the copies that are held.
-fn keep_held(copies: &mut Vec<CopyMessage>, queue: &Queue)
+fn keep_held(copies: &mut Vec<CopyMessage<usize>>, queue: &Queue)
     ensures { copies.new.items ≡ filter (λ copy. is_some (holder_of copy.number queue.now)) copies.old.items }
 {
     copies.retain(|copy| queue.holder(copy.number).is_some());
 }
 
 /// Adds a copy, for which there is room.
-fn add(copies: &mut Vec<CopyMessage>, number: CopyNo, message: Shared)
+fn add(copies: &mut Vec<CopyMessage<usize>>, number: CopyNo, key: usize)
     requires { vec_len copies.old < vec_capacity copies.old }
-    ensures { copies.new.items ≡ copies.old.items ++ fresh number message ∷ [] }
+    ensures { copies.new.items ≡ copies.old.items ++ fresh number key ∷ [] }
 {
     match copies.push(CopyMessage {
         number,
         again: false,
-        message,
+        message: key,
     }) {
         Ok(()) => {}
         Err(_) => unreachable!(),

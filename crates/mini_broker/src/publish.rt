@@ -13,7 +13,6 @@ ghost use Rattle.mini_broker.specs.Publish.{publish_refusal as refusal_to_publis
 use crate::fault::ClientFault;
 use crate::names::is_reserved;
 use crate::queues::Queues;
-use crate::shared::Shared;
 use crate::vhost::Vhost;
 use amqp_props::{Message, Text};
 use field_tables::Table;
@@ -58,62 +57,12 @@ fn first_copy(number: CopyNo, names: &[Text]) -> CopyNo
     }
 }
 
-/// Lets a copy enter each of the queues, numbered in their order.
-///
-/// # Errors
-///
-/// For want of memory; the queues are then as they were.
-fn enter_all(
-    queues: &mut Queues,
-    names: &[Text],
-    number: CopyNo,
-    message: &Shared,
-) -> Result<(), AllocError>
-    requires above { AreAbove number queues.old }
-    requires fits { number + length names.now < 2 ^ 64 }
-    ensures ok { OnOk result (queues.new ≡ all_entered names.now number message.now queues.old) }
-    ensures err { OnErr result (queues.new ≡ queues.old) }
-{
-    let Some((name, rest)) = names.split_first() else {
-        return Ok(());
-    };
-    let own = message.clone()?;
-    queues.enter(name.as_str(), number, own)?;
-    match enter_all(queues, rest, number + 1, message) {
-        Ok(()) => Ok(()),
-        Err(e) => {
-            queues.leave(name.as_str(), number);
-            Err(e)
-        }
-    }
-}
-
-/// The same, and no queue comes or goes.
-fn enter_copies(
-    queues: &mut Queues,
-    names: &[Text],
-    number: CopyNo,
-    message: &Shared,
-) -> Result<(), AllocError>
-    requires above { AreAbove number queues.old }
-    requires fits { number + length names.now < 2 ^ 64 }
-    ensures ok { OnOk result (queues.new ≡ all_entered names.now number message.now queues.old) }
-    ensures err { OnErr result (queues.new ≡ queues.old) }
-    ensures names { SameNames queues.old queues.new }
-{
-    match enter_all(queues, names, number, message) {
-        Ok(()) => Ok(()),
-        Err(e) => Err(e),
-    }
-}
-
 /// Lets copies of the message enter the queues, numbered in their order.
 ///
 /// # Errors
 ///
 /// For want of memory; the queues are then as they were.
 pub(crate) fn enter_message(
-    alloc: Global,
     queues: &mut Queues,
     names: &[Text],
     number: CopyNo,
@@ -125,11 +74,7 @@ pub(crate) fn enter_message(
     ensures err { OnErr result (queues.new ≡ queues.old) }
     ensures names { SameNames queues.old queues.new }
 {
-    let shared = match Shared::new(alloc, message) {
-        Ok(shared) => shared,
-        Err(e) => return Err(e),
-    };
-    match enter_copies(queues, names, number, &shared) {
+    match queues.enter_all(names, number, message) {
         Ok(()) => Ok(()),
         Err(e) => Err(e),
     }
@@ -160,7 +105,7 @@ fn spread(
         Err(e) => return Err(e),
     };
     let first = first_copy(number, &names);
-    match enter_message(alloc, queues, &names, number, message) {
+    match enter_message(queues, &names, number, message) {
         Ok(()) => Ok(Accepted {
             first,
             queues: names,

@@ -1,40 +1,47 @@
-//! The queues of a virtual host under their names.
+//! The queues of a virtual host under their names, with the messages of their copies.
 
-ghost use Rattle.std.specs.Prelude.{◌≡◌, ◌==◌, ◌&&◌, [], ◌∷◌, ◌++◌, None, false, not, map, filter, IfSome, IfNone, IfOk, OnOk, OnErr, string_bytes};
+ghost use Rattle.std.specs.Prelude.{◌≡◌, ◌==◌, ◌+◌, ◌<◌, ◌≤◌, ◌^◌, ◌&&◌, [], ◌∷◌, ◌++◌, None, if◌then◌else◌, false, is_some, not, map, filter, length, IfSome, IfNone, IfOk, OnOk, OnErr, string_bytes};
 ghost use Rattle.std.specs.List.{list_any};
-ghost use Rattle.std.specs.Option.{option_copied, option_map_or};
+ghost use Rattle.std.specs.Option.{option_copied, option_map, option_map_or};
 ghost use Rattle.std.specs.Str.{bytes_eq};
 ghost use Rattle.indexmap.specs.IndexMap.{values};
-ghost use Rattle.mini_broker.specs.Mail.{entered, given, left, purged, swept, is_held_at as is_held_by_client};
-ghost use Rattle.mini_broker.specs.Queues.{queue_of, changed, with_mail, ready_in, ready_count, AreAbove, all_changed, is_held_in};
+ghost use Rattle.mini_broker.specs.Mail.{empty, entered, given, left, purged, swept, is_held_at as is_held_by_client};
+ghost use Rattle.mini_broker.specs.Messages.{IsCounted, AreMore, Remains, shown};
+ghost use Rattle.mini_broker.specs.Publish.{all_entered};
+ghost use Rattle.mini_broker.specs.Queues.{named, bare_queue, emptied, queue_of, changed, with_mail, first_in, ready_in, ready_count, AreAbove, all_changed, is_held_in};
 ghost use Rattle.mini_broker.specs.Close.{others, owned_names, StandInTurn};
 
-use crate::mailbox::Sweep;
-use crate::shared::Shared;
+use crate::mailbox::{CopyMessage, Mailbox, Sweep};
+use crate::messages::Messages;
 use crate::standing::StandingQueue;
-use amqp_props::Text;
+use amqp_props::{Message, Text};
 use indexmap::IndexMap;
 use queue_core::{CopyNo, Holder};
 use std::alloc::{AllocError, Global};
 use std::marker::Model;
 
-/// The queues of a virtual host in the order of making.
+/// The queues of a virtual host in the order of making, and the messages of their copies.
 #[derive(Drop)]
 pub struct Queues {
-    table: IndexMap<String, StandingQueue>,
+    table: IndexMap<String, StandingQueue<Mailbox>>,
+    messages: Messages,
 }
 
 impl Model for Queues {
-    ghost use Rattle.std.specs.Prelude.{List, map, string_bytes};
-    ghost use Rattle.mini_broker.specs.contracts.standing.StandingQueue as queue;
+    ghost use Rattle.std.specs.Prelude.{List};
     ghost use Rattle.std.specs.Coded.{codes};
-    ghost use Rattle.mini_broker.specs.Queues.{Named};
+    ghost use Rattle.amqp_props.specs.declared.message.Message.{Message};
+    ghost use Rattle.amqp_props.specs.contracts.message.Message as message;
+    ghost use Rattle.mini_broker.specs.Queues.{Named, named};
+    ghost use Rattle.mini_broker.specs.Messages.{queues_with, message_at, IsCounted};
 
-    ghost Value = { List Named };
+    ghost Value = { List (Named Message) };
 
-    ghost coded = { Prim.hlevel (codes, queue.the_row.coded) };
+    ghost coded = { Prim.hlevel (codes, message.the_row.coded) };
 
-    ghost view = { λ q. map (λ e. (string_bytes e.0, e.1)) q.table.entries };
+    ghost view = { λ q. queues_with (message_at q.messages) (named q.table.entries) };
+
+    ghost invariant = { λ q. IsCounted q.messages (named q.table.entries) };
 }
 
 impl Queues {
@@ -44,24 +51,38 @@ impl Queues {
     {
         Queues {
             table: IndexMap::new(alloc),
+            messages: Messages::new(alloc),
         }
     }
 
-    /// The queue of that name; None exactly where there is none.
-    pub fn find(&self, name: &str) -> Option<&StandingQueue>
-        ensures { option_copied result ≡ queue_of name.now self.now }
+    /// The queue of that name, whose copies have the keys of their messages; None exactly where there is none.
+    pub fn find(&self, name: &str) -> Option<&StandingQueue<Mailbox>>
+        ensures { option_map bare_queue (option_copied result) ≡ option_map bare_queue (queue_of name.now self.now) }
     {
         self.table.get(name)
     }
 
-    /// Adds a queue as the last.
+    /// The copy that the queue would hand out now, and its message; None exactly where no copy is ready there.
+    pub fn first(&self, name: &str) -> Option<(&CopyMessage<usize>, &Message)>
+        ensures first { option_map shown result ≡ first_in name.now self.now }
+        ensures ready { option_map (λ first. first.0.now.number) result ≡ ready_in name.now self.now }
+    {
+        let copy = self.table.get(name)?.mail.first()?;
+        match self.messages.get(copy.message) {
+            Some(message) => Some((copy, message)),
+            None => None,
+        }
+    }
+
+    /// Adds a queue without copies as the last.
     ///
     /// # Errors
     ///
     /// For want of memory; the queues are then as they were.
-    pub fn add(&mut self, name: String, queue: StandingQueue) -> Result<(), AllocError>
-        requires { queue_of (string_bytes name) self.old ≡ None }
-        ensures ok { OnOk result (self.new ≡ self.old ++ (string_bytes name, queue) ∷ []) }
+    pub fn add(&mut self, name: String, queue: StandingQueue<Mailbox>) -> Result<(), AllocError>
+        requires absent { queue_of (string_bytes name) self.old ≡ None }
+        requires bare { queue.mail ≡ empty }
+        ensures ok { OnOk result (self.new ≡ self.old ++ (string_bytes name, emptied queue) ∷ []) }
         ensures err { OnErr result (self.new ≡ self.old) }
     {
         self.table.insert(name, queue)?;
@@ -72,6 +93,7 @@ impl Queues {
     pub fn remove(&mut self, name: &str)
         ensures { self.new ≡ others name.now self.old }
     {
+        free_named(&mut self.messages, &self.table, name);
         keep_others(&mut self.table, name);
     }
 
@@ -87,20 +109,27 @@ impl Queues {
         owned_among(alloc, &self.table, connection)
     }
 
-    /// Lets a copy enter the queue, if there is one of that name.
+    /// Lets copies of a message enter the queues, numbered in their order.
     ///
     /// # Errors
     ///
     /// For want of memory; the queues are then as they were.
-    pub fn enter(&mut self, name: &str, number: CopyNo, message: Shared) -> Result<(), AllocError>
-        requires { AreAbove number self.old }
-        ensures ok { OnOk result (self.new ≡ changed name.now (with_mail (entered number message)) self.old) }
+    pub fn enter_all(
+        &mut self,
+        names: &[Text],
+        number: CopyNo,
+        message: Message,
+    ) -> Result<(), AllocError>
+        requires above { AreAbove number self.old }
+        requires fits { number + length names.now < 2 ^ 64 }
+        ensures ok { OnOk result (self.new ≡ all_entered names.now number message self.old) }
         ensures err { OnErr result (self.new ≡ self.old) }
     {
-        match self.table.get_index_of(name) {
-            Some(place) => self.table[place].mail.enter(number, message),
-            None => Ok(()),
-        }
+        self.messages.reserve()?;
+        let key = self.messages.next_key();
+        let copies = enter_each(&mut self.table, names, number, key)?;
+        self.messages.keep(message, copies);
+        Ok(())
     }
 
     /// Hands out the first ready copy of the queue, to the holder or for good; None exactly where none is ready.
@@ -110,20 +139,12 @@ impl Queues {
         ensures none { IfNone result (self.new ≡ self.old) }
     {
         match self.table.get_index_of(name) {
-            Some(place) => self.table[place].mail.hand_out(holder, no_ack),
-            None => None,
-        }
-    }
-
-    /// Removes a copy from the queue, if there is one of that name.
-    pub fn leave(&mut self, name: &str, number: CopyNo)
-        ensures { self.new ≡ changed name.now (with_mail (left number)) self.old }
-    {
-        match self.table.get_index_of(name) {
             Some(place) => {
-                self.table[place].mail.leave(number);
+                self.table[place]
+                    .mail
+                    .hand_out(&mut self.messages, holder, no_ack)
             }
-            None => {}
+            None => None,
         }
     }
 
@@ -133,7 +154,7 @@ impl Queues {
         ensures purged { self.new ≡ changed name.now (with_mail purged) self.old }
     {
         match self.table.get_index_of(name) {
-            Some(place) => self.table[place].mail.purge(),
+            Some(place) => self.table[place].mail.purge(&mut self.messages),
             None => 0,
         }
     }
@@ -149,12 +170,16 @@ impl Queues {
     pub fn sweep(&mut self, sweep: Sweep)
         ensures { self.new ≡ all_changed (with_mail (swept sweep)) self.old }
     {
-        sweep_table(&mut self.table, sweep);
+        sweep_table(&mut self.table, &mut self.messages, sweep);
     }
 }
 
 /// Whether a consumer of the client holds the copy in a queue.
-fn is_held_among(table: &IndexMap<String, StandingQueue>, client: u32, number: CopyNo) -> bool
+fn is_held_among(
+    table: &IndexMap<String, StandingQueue<Mailbox>>,
+    client: u32,
+    number: CopyNo,
+) -> bool
     ensures { result ≡ list_any (λ queue. is_held_by_client client number queue.mail) (values table.now) }
 {
     table
@@ -163,16 +188,102 @@ fn is_held_among(table: &IndexMap<String, StandingQueue>, client: u32, number: C
 }
 
 /// Does what is done to every queue.
-fn sweep_table(table: &mut IndexMap<String, StandingQueue>, sweep: Sweep)
-    ensures { table.new.entries ≡ map (λ e. (e.0, with_mail (swept sweep) e.1)) table.old.entries }
+fn sweep_table(
+    table: &mut IndexMap<String, StandingQueue<Mailbox>>,
+    messages: &mut Messages,
+    sweep: Sweep,
+)
+    requires { IsCounted messages.old (named table.old.entries) }
+    ensures swept { table.new.entries ≡ map (λ e. (e.0, with_mail (swept sweep) e.1)) table.old.entries }
+    ensures remains { Remains messages.old messages.new (named table.new.entries) }
 {
     for place in 0..table.len() {
-        table[place].mail.sweep(sweep);
+        table[place].mail.sweep(messages, sweep);
+    }
+}
+
+/// Lets a copy with its message's key enter the queue, if there is one of that name; how many entered.
+///
+/// # Errors
+///
+/// For want of memory; the queues are then as they were.
+fn enter(
+    table: &mut IndexMap<String, StandingQueue<Mailbox>>,
+    name: &str,
+    number: CopyNo,
+    key: usize,
+) -> Result<usize, AllocError>
+    requires { AreAbove number (named table.old.entries) }
+    ensures ok { OnOk result (named table.new.entries ≡ changed name.now (with_mail (entered number key)) (named table.old.entries)) }
+    ensures count { IfOk result (λ copies. copies ≡ (if is_some (queue_of name.now (named table.old.entries)) then 1 else 0)) }
+    ensures err { OnErr result (named table.new.entries ≡ named table.old.entries) }
+{
+    match table.get_index_of(name) {
+        Some(place) => {
+            table[place].mail.enter(number, key)?;
+            Ok(1)
+        }
+        None => Ok(0),
+    }
+}
+
+/// Removes a copy from the queue, if there is one of that name, before its message is kept.
+fn withdraw(table: &mut IndexMap<String, StandingQueue<Mailbox>>, name: &str, number: CopyNo)
+    ensures { named table.new.entries ≡ changed name.now (with_mail (left number)) (named table.old.entries) }
+{
+    match table.get_index_of(name) {
+        Some(place) => {
+            table[place].mail.withdraw(number);
+        }
+        None => {}
+    }
+}
+
+/// Lets a copy with their message's key enter each of the queues, numbered in their order; how many entered.
+///
+/// # Errors
+///
+/// For want of memory; the queues are then as they were.
+fn enter_each(
+    table: &mut IndexMap<String, StandingQueue<Mailbox>>,
+    names: &[Text],
+    number: CopyNo,
+    key: usize,
+) -> Result<usize, AllocError>
+    requires above { AreAbove number (named table.old.entries) }
+    requires fits { number + length names.now < 2 ^ 64 }
+    ensures ok { OnOk result (named table.new.entries ≡ all_entered names.now number key (named table.old.entries)) }
+    ensures count { IfOk result (λ copies. AreMore key copies (named table.old.entries) (named table.new.entries)) }
+    ensures few { IfOk result (λ copies. copies ≤ length names.now) }
+    ensures err { OnErr result (named table.new.entries ≡ named table.old.entries) }
+{
+    let Some((name, rest)) = names.split_first() else {
+        return Ok(0);
+    };
+    let copies = enter(table, name.as_str(), number, key)?;
+    match enter_each(table, rest, number + 1, key) {
+        Ok(more) => Ok(copies + more),
+        Err(e) => {
+            withdraw(table, name.as_str(), number);
+            Err(e)
+        }
+    }
+}
+
+/// The copies of the queue of that name are gone.
+fn free_named(messages: &mut Messages, table: &IndexMap<String, StandingQueue<Mailbox>>, name: &str)
+    requires { IsCounted messages.old (named table.now.entries) }
+    ensures { Remains messages.old messages.new (others name.now (named table.now.entries)) }
+{
+    for (key, queue) in table.iter() {
+        if key.as_str() == name {
+            queue.mail.free(messages);
+        }
     }
 }
 
 /// Removes the queue of that name.
-fn keep_others(table: &mut IndexMap<String, StandingQueue>, name: &str)
+fn keep_others(table: &mut IndexMap<String, StandingQueue<Mailbox>>, name: &str)
     ensures { table.new.entries ≡ filter (λ e. not (bytes_eq (string_bytes e.0) name.now)) table.old.entries }
 {
     table.retain(|key, _| key.as_str() != name);
@@ -189,7 +300,7 @@ fn is_owner(owner: Option<u32>, connection: u32) -> bool
 }
 
 /// Whether the connection has the queue to itself.
-fn is_owned(queue: &StandingQueue, connection: u32) -> bool
+fn is_owned(queue: &StandingQueue<Mailbox>, connection: u32) -> bool
     ensures { result ≡ (queue.now.options.exclusive && option_map_or (λ own. own == connection) queue.now.owner false) }
 {
     queue.options.exclusive && is_owner(queue.owner, connection)
@@ -207,11 +318,11 @@ fn add_name(alloc: Global, names: &mut Vec<Text>, name: &str) -> Result<(), Allo
 /// The names of the queues that the connection has to itself.
 fn owned_among(
     alloc: Global,
-    table: &IndexMap<String, StandingQueue>,
+    table: &IndexMap<String, StandingQueue<Mailbox>>,
     connection: u32,
 ) -> Result<Vec<Text>, AllocError>
-    ensures names { IfOk result (λ names. names.items ≡ owned_names connection (map (λ e. (string_bytes e.0, e.1)) table.now.entries)) }
-    ensures standing { IfOk result (λ names. StandInTurn names.items (map (λ e. (string_bytes e.0, e.1)) table.now.entries)) }
+    ensures names { IfOk result (λ names. names.items ≡ owned_names connection (named table.now.entries)) }
+    ensures standing { IfOk result (λ names. StandInTurn names.items (named table.now.entries)) }
 {
     let mut names = Vec::new(alloc);
     for (name, queue) in table.iter() {

@@ -106,7 +106,7 @@ impl Vhost {
         ensures ok { OnOk result (self.new ≡ with_entered names.now number message self.old) }
         ensures err { OnErr result (self.new ≡ self.old) }
     {
-        match enter_message(self.alloc, &mut self.queues, names, number, message) {
+        match enter_message(&mut self.queues, names, number, message) {
             Ok(()) => Ok(()),
             Err(e) => Err(e),
         }

@@ -1,12 +1,11 @@
 //! A queue as it stands in a virtual host.
 
-use crate::mailbox::Mailbox;
 use amqp_props::QueueOptions;
 use route_core::QueueNo;
 
 /// A queue that was declared.
 #[derive(Drop)]
-pub struct StandingQueue {
+pub struct StandingQueue<B> {
     /// Its number among the queues of the virtual host, in the order of making.
     pub number: QueueNo,
     /// What it was declared with.
@@ -14,5 +13,5 @@ pub struct StandingQueue {
     /// The connection that has it to itself.
     pub owner: Option<u32>,
     /// Its copies.
-    pub mail: Mailbox,
+    pub mail: B,
 }

@@ -37,12 +37,12 @@ pub struct Vhost {
 impl Model for Vhost {
     ghost use Rattle.std.specs.Coded.{codes};
     ghost use Rattle.route_core.specs.Codes.{coded_routing};
-    ghost use Rattle.mini_broker.specs.contracts.standing.StandingQueue as queue;
+    ghost use Rattle.amqp_props.specs.contracts.message.Message as message;
     ghost use Rattle.mini_broker.specs.State.{VhostState};
 
     ghost Value = { VhostState };
 
-    ghost coded = { Prim.hlevel (codes, coded_routing, queue.the_row.coded) };
+    ghost coded = { Prim.hlevel (codes, coded_routing, message.the_row.coded) };
 
     ghost use Rattle.mini_broker.specs.Inside.{state_of, IsKept};
 

@@ -1,7 +1,7 @@
 use Rattle.std.proofs.Common.{◌≡◌, sym, subst, arith}
 use Rattle.std.proofs.lemmas.Grind.{common_steps}
 use Rattle.mini_broker.specs.Close.{owned_names, StandInTurn}
-use Rattle.mini_broker.proofs.QueueLemmas.{named}
+use Rattle.mini_broker.specs.Queues.{named}
 use Rattle.mini_broker.proofs.CloseLemmas.{owned_stand}
 use Rattle.mini_broker.proofs.queues.owned_among.Goals as goal
 

@@ -1,7 +1,7 @@
 -- The names so far and those of what is left are the names of all.
 use Rattle.std.proofs.Common.{◌≡◌, ◌++◌}
 use Rattle.mini_broker.specs.Close.{owned_names}
-use Rattle.mini_broker.proofs.QueueLemmas.{named}
+use Rattle.mini_broker.specs.Queues.{named}
 use Rattle.mini_broker.proofs.queues.owned_among.Given as goal
 
 abbrev pub invariant-loop-name : goal.invariant-loop-name

@@ -1,8 +1,12 @@
+-- The queues so far are swept, and what their copies don't need is freed.
 use Rattle.std.proofs.Common.{◌≡◌, ◌++◌, take, drop}
 use Rattle.std.specs.Prelude.{map}
 use Rattle.mini_broker.specs.Mail.{swept}
-use Rattle.mini_broker.specs.Queues.{with_mail}
+use Rattle.mini_broker.specs.Messages.{Remains}
+use Rattle.mini_broker.specs.Queues.{named, with_mail}
 use Rattle.mini_broker.proofs.queues.sweep_table.Given as goal
 
 abbrev pub invariant-loop-place : goal.invariant-loop-place
-invariant-loop-place l = l.table.entries ≡ map (λ e. (e.0, with_mail (swept l.sweep) e.1)) (take l.place l.initial.table.entries) ++ drop l.place l.initial.table.entries
+invariant-loop-place l =
+    (l.table.entries ≡ map (λ e. (e.0, with_mail (swept l.sweep) e.1)) (take l.place l.initial.table.entries) ++ drop l.place l.initial.table.entries)
+    × Remains l.initial.messages l.messages (named l.table.entries)

@@ -1,10 +1,18 @@
-use Rattle.std.proofs.Common.{◌≡◌, subst}
-use Rattle.std.specs.Prelude.{IfOk}
+use Rattle.std.proofs.Common.{sym, ap, ◌∙◌, subst}
 use Rattle.mini_broker.specs.Close.{owned_names, StandInTurn}
+use Rattle.mini_broker.specs.Messages.{message_at}
+use Rattle.mini_broker.specs.Queues.{named}
+use Rattle.mini_broker.proofs.KeyLemmas.{owned_with, turn_with}
+use Rattle.mini_broker.proofs.TableLemmas.{if_ok}
 use Rattle.mini_broker.proofs.queues.Queues.owned.Goals as goal
 
 pub returns-clause-names : goal.returns-clause-names
-returns-clause-names c = subst (λ queues. IfOk c.owned_among.result (λ names. names.items ≡ owned_names c.args.connection queues)) c.self.view_is c.owned_among.ensures.names
+returns-clause-names c =
+    if_ok c.owned_among.result (λ names is.
+    is
+    ∙ sym (owned_with (message_at c.self.inside.messages) c.args.connection (named c.self.inside.table.entries))
+    ∙ ap (owned_names c.args.connection) c.self.view_is) c.owned_among.ensures.names
 
 pub returns-clause-standing : goal.returns-clause-standing
-returns-clause-standing c = subst (λ queues. IfOk c.owned_among.result (λ names. StandInTurn names.items queues)) c.self.view_is c.owned_among.ensures.standing
+returns-clause-standing c =
+    if_ok c.owned_among.result (λ names stand. subst (StandInTurn names.items) c.self.view_is (turn_with (message_at c.self.inside.messages) names.items (named c.self.inside.table.entries) stand)) c.owned_among.ensures.standing

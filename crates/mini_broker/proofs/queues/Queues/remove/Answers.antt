@@ -1,8 +1,18 @@
-use Rattle.std.proofs.Common.{ap, ◌∙◌}
+use Rattle.std.proofs.Common.{sym, ap, ◌∙◌, subst}
 use Rattle.mini_broker.specs.Close.{others}
-use Rattle.mini_broker.proofs.QueueLemmas.{named, named_others}
+use Rattle.mini_broker.specs.Messages.{message_at, queues_with, IsCounted}
+use Rattle.mini_broker.specs.Queues.{named}
+use Rattle.mini_broker.proofs.QueueLemmas.{named_others}
+use Rattle.mini_broker.proofs.KeyLemmas.{others_with}
+use Rattle.mini_broker.proofs.CountLemmas.{remains_seen}
 use Rattle.mini_broker.proofs.queues.Queues.remove.Goals as goal
 
 pub returns : goal.returns
 returns c =
-    ap named c.keep_others.ensures ∙ named_others c.args.name.now c.self.inside.table.entries ∙ ap (others c.args.name.now) c.self.view_is
+    ap (queues_with (message_at c.free_named.new.messages)) (ap named c.keep_others.ensures ∙ named_others c.args.name.now c.self.inside.table.entries)
+    ∙ remains_seen c.self.inside.messages c.free_named.new.messages (others c.args.name.now (named c.self.inside.table.entries)) c.free_named.ensures
+    ∙ others_with (message_at c.self.inside.messages) c.args.name.now (named c.self.inside.table.entries)
+    ∙ ap (others c.args.name.now) c.self.view_is
+
+pub invariant_of-self : goal.invariant_of-self
+invariant_of-self c = subst (IsCounted c.free_named.new.messages) (sym (ap named c.keep_others.ensures ∙ named_others c.args.name.now c.self.inside.table.entries)) c.free_named.ensures.counted

@@ -1,9 +1,16 @@
 use Rattle.std.proofs.Common.{ap, ◌∙◌}
 use Rattle.mini_broker.specs.Mail.{swept}
-use Rattle.mini_broker.specs.Queues.{with_mail, all_changed}
-use Rattle.mini_broker.proofs.QueueLemmas.{named, named_swept}
+use Rattle.mini_broker.specs.Messages.{message_at, queues_with}
+use Rattle.mini_broker.specs.Queues.{named, with_mail, all_changed}
+use Rattle.mini_broker.proofs.QueueLemmas.{named_swept}
+use Rattle.mini_broker.proofs.KeyLemmas.{queues_all_changed, mail_swept}
+use Rattle.mini_broker.proofs.CountLemmas.{remains_seen}
 use Rattle.mini_broker.proofs.queues.Queues.sweep.Goals as goal
 
 pub returns : goal.returns
 returns c =
-    ap named c.sweep_table.ensures ∙ named_swept (with_mail (swept c.args.sweep)) c.self.inside.table.entries ∙ ap (all_changed (with_mail (swept c.args.sweep))) c.self.view_is
+    remains_seen c.self.inside.messages c.sweep_table.new.messages (named c.sweep_table.new.table.entries) c.sweep_table.ensures.remains
+    ∙ ap (λ es. queues_with (message_at c.self.inside.messages) (named es)) c.sweep_table.ensures.swept
+    ∙ ap (queues_with (message_at c.self.inside.messages)) (named_swept (with_mail (swept c.args.sweep)) c.self.inside.table.entries)
+    ∙ queues_all_changed (message_at c.self.inside.messages) (swept c.args.sweep) (swept c.args.sweep) (mail_swept (message_at c.self.inside.messages) c.args.sweep) (named c.self.inside.table.entries)
+    ∙ ap (all_changed (with_mail (swept c.args.sweep))) c.self.view_is
