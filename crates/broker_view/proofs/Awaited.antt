@@ -140,7 +140,7 @@ if-stays : (b : Bool) (s t : Standing) → is_left s ≡ false → is_left t ≡
 if-stays true s t g h = g
 if-stays false s t g h = h
 
-closed-stays : (p : Place) (n : ℕ) (t : Standing) → is_left t ≡ false → is_left (closed p n t) ≡ false
+pub closed-stays : (p : Place) (n : ℕ) (t : Standing) → is_left t ≡ false → is_left (closed p n t) ≡ false
 closed-stays p n (Held holder) h = if-stays (is_connection p n holder) Ready (Held holder) refl refl
 closed-stays p n Unknown h = h
 closed-stays p n Ready h = h
@@ -166,7 +166,7 @@ purged J p place q v x true is has known at =
     awaited-kept J (Purged place q) x (λ c. not (list_any (λ n. n == c) (ready_copies q v))) known
     (λ c copy h. if-left (is_waiting (standing c J) && is_home x c place q) (standing c J) (not-left J c h)
     ∙ ap (λ y. is_waiting (standing c J) && is_home x c y q) (same_place-true place p is)
-    ∙ purged-member J p q v x c has known at copy (unsecured-there J c h)
+    ∙ purged-member J p q v x c has known copy (unsecured-there J c h)
     ∙ sym (not-not (list_any (λ n. n == c) (ready_copies q v))))
     ∙ sym (all-left (ready_copies q v) (awaited J x))
 purged J p place q v x false isn't has known at =
@@ -178,7 +178,7 @@ gone J p place q v x true is has known at =
     awaited-kept J (GoneQueue place q) x (λ c. not (list_any (λ n. n == c) (all_copies q v))) known
     (λ c copy h. if-left (is_home x c place q) (standing c J) (not-left J c h)
     ∙ ap (λ y. is_home x c y q) (same_place-true place p is)
-    ∙ gone-member J p q v x c has known at copy (unsecured-there J c h)
+    ∙ gone-member J p q v x c has known copy (unsecured-there J c h)
     ∙ sym (not-not (list_any (λ n. n == c) (all_copies q v))))
     ∙ sym (all-left (all_copies q v) (awaited J x))
 gone J p place q v x false isn't has known at =

@@ -35,13 +35,13 @@ use Rattle.mini_broker.specs.Consume.{registered, new_consumer, without_consumer
 use Rattle.mini_broker.specs.Deliver.{handed_over}
 use Rattle.mini_broker.specs.Close.{without_queue, freed_from, disconnected}
 use Rattle.mini_broker.specs.Record.{holder_as}
+use Rattle.mini_broker.proofs.NameLemmas.{routed_queue, routed_exchange, free_queue, free_exchange, not_declared}
 use Rattle.broker_view.specs.View.{IsConfigured, AreDistinct}
 use Rattle.broker_view.specs.Suits.{Suits}
 use Rattle.broker_view.specs.Recorded.{recorded, session_holder}
 use Rattle.broker_view.proofs.Names.{same_text-true, same_text-sym, same_place-true}
 use Rattle.broker_view.proofs.Tables.{map-push, lookup-other, lookup-new, none-from, names-filter, distinct-push, distinct-filter, absent-any, plain, same-names, same-options, same-owner, same-some, plain-changed, plain-all, plain-entered, plain-freed}
 use Rattle.broker_view.proofs.Sites.{HaveEnds, site-ends, without-absent, lookup-without, routed-gone}
-use Rattle.broker_view.proofs.Routed.{routed-queue, routed-exchange, free-queue, free-exchange, not-declared}
 
 -- ---- one more entry
 
@@ -176,9 +176,9 @@ made-at true v k queue options owner h free =
       has_names = map-push (λ (q : Named Message). q.0) v.queues (queue, new) ∙ ap (λ ns. ns ++ queue ∷ []) h.has_names;
       distinct = subst AreDistinct (sym (map-push (λ (q : Named Message). q.0) v.queues (queue, new))) (distinct-push (map (λ q. q.0) v.queues) queue h.distinct (absent-any queue v.queues none));
       has_shape = h.has_shape;
-      routing = made-free queue (nodes.Queue v.made) v.routing k.site.routing h.routing (free-queue v.routing v.queues v.exchanges v.made queue h.routed none) ∙ ap (λ n. made queue (nodes.Queue n) k.site.routing) h.made;
+      routing = made-free queue (nodes.Queue v.made) v.routing k.site.routing h.routing (free_queue v.routing v.queues v.exchanges v.made queue h.routed none) ∙ ap (λ n. made queue (nodes.Queue n) k.site.routing) h.made;
       made = ap (λ n. n + 1) h.made;
-      routed = routed-queue v.routing v.queues v.exchanges v.made queue new h.routed;
+      routed = routed_queue v.routing v.queues v.exchanges v.made queue new h.routed;
     }
 
 abbrev with_shape : Bool → List ℕ → ExchangeShape → Known → Known
@@ -205,10 +205,10 @@ exchange-at true v k exchange shape h free named =
       has_owner = h.has_owner;
       has_names = h.has_names;
       distinct = h.distinct;
-      has_shape = λ x. shape-by v.exchanges exchange x shape (k.shape x) (same_text exchange x) refl (not-declared exchange v.exchanges none) (h.has_shape x);
-      routing = made-free exchange (nodes.Exchange shape.kind) v.routing k.site.routing h.routing (free-exchange v.routing v.queues v.exchanges v.made exchange h.routed none named);
+      has_shape = λ x. shape-by v.exchanges exchange x shape (k.shape x) (same_text exchange x) refl (not_declared exchange v.exchanges none) (h.has_shape x);
+      routing = made-free exchange (nodes.Exchange shape.kind) v.routing k.site.routing h.routing (free_exchange v.routing v.queues v.exchanges v.made exchange h.routed none named);
       made = h.made;
-      routed = routed-exchange v.routing v.queues v.exchanges v.made exchange shape h.routed;
+      routed = routed_exchange v.routing v.queues v.exchanges v.made exchange shape h.routed;
     }
 
 -- ---- a queue is gone

@@ -2,7 +2,7 @@
 use Rattle.std.proofs.Common.{◌≡◌, ℕ, ◌+◌, ◌<◌, ◌≤◌, ◌==◌, Bool, true, false, cond, not, ◌&&◌, List, [], ◌∷◌, ◌++◌, Option, Some, None, All, filter, find, refl, sym, ap, subst, ◌∙◌, arith}
 use Rattle.std.specs.List.{list_any}
 use Rattle.std.specs.Option.{option_map, option_or}
-use Rattle.std.proofs.lemmas.Bool.{true≢false, and_parts, and_from, or_parts, or_from, false_from_ne_true}
+use Rattle.std.proofs.lemmas.Bool.{true≢false, and_parts, and_from, false_from_ne_true}
 use Rattle.std.proofs.lemmas.Option.{none-some}
 use Rattle.std.proofs.lemmas.List.Elements.{All-nil, All-head, All-tail, All-push, All-filter, All-weaker}
 use Rattle.std.proofs.lemmas.List.Folds.{find-append}
@@ -25,8 +25,9 @@ use Rattle.broker_view.specs.Suits.{Suits}
 use Rattle.broker_view.specs.View.{asked, AreSingle, Rise, IsNumbered, HasConsumers}
 use Rattle.broker_view.proofs.Names.{same_text-true, same_text-refl, same_text-sym, same_place-true}
 use Rattle.broker_view.proofs.Alike.{same_client-true, same_client-refl, same_client-turned}
-use Rattle.broker_view.proofs.Finds.{find-any, any-all, any-filter, found-passes, Once, unless_it, find-filtered}
+use Rattle.broker_view.proofs.Finds.{find-any, any-all, found-passes, Once, unless_it, find-filtered}
 use Rattle.broker_view.proofs.Clients.{SameClients, same-clients, plain-same, plain-consumer, Grows, same-grows, recorded-grows, numbered-grown, registered-number}
+use Rattle.broker_view.proofs.Tables.{none-push, none-filter}
 
 -- ---- consumers by their client and tag
 
@@ -53,16 +54,10 @@ single-once k t (consumer ∷ consumers) single = (
   single-once k t consumers single.1,
 )
 
-any-push : {X : Type 0} (p : X → Bool) (xs : List X) (y : X) → list_any p xs ≡ false → p y ≡ false → list_any p (xs ++ y ∷ []) ≡ false
-any-push p [] y none off = or_from (p y) false off refl
-any-push p (x ∷ xs) y none off =
-    let parts : (p x ≡ false) × (list_any p xs ≡ false) = or_parts (p x) (list_any p xs) none in
-    or_from (p x) (list_any p (xs ++ y ∷ [])) parts.0 (any-push p xs y parts.1 off)
-
 single-push : (consumers : List Consumer) (new : Consumer) → AreSingle consumers → All (λ consumer. is_consumer new.client new.tag consumer ≡ false) consumers → AreSingle (consumers ++ new ∷ [])
 single-push [] new single others = (refl, tt)
 single-push (consumer ∷ consumers) new single others = (
-  any-push (is_consumer consumer.client consumer.tag) consumers new single.0 (turned-other consumer new (All-head (λ c. is_consumer new.client new.tag c ≡ false) consumer consumers others)),
+  none-push (is_consumer consumer.client consumer.tag) consumers new single.0 (turned-other consumer new (All-head (λ c. is_consumer new.client new.tag c ≡ false) consumer consumers others)),
   single-push consumers new single.1 (All-tail (λ c. is_consumer new.client new.tag c ≡ false) consumer consumers others),
 )
 
@@ -70,7 +65,7 @@ single-filter : (test : Consumer → Bool) (consumers : List Consumer) → AreSi
 single-filter test [] single = tt
 single-filter test (consumer ∷ consumers) single =
     elim (test consumer) as (λ b. AreSingle (cond b (consumer ∷ filter test consumers) (filter test consumers))) [
-      | true ↦ (any-filter (is_consumer consumer.client consumer.tag) test consumers single.0, single-filter test consumers single.1)
+      | true ↦ (none-filter (is_consumer consumer.client consumer.tag) test consumers single.0, single-filter test consumers single.1)
       | false ↦ single-filter test consumers single.1
     ]
 

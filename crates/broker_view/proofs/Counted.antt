@@ -3,7 +3,6 @@ use Rattle.std.proofs.Common.{◌≡◌, ℕ, ◌+◌, ◌-◌, ◌<◌, ◌≤�
 use Rattle.std.specs.Prelude.{if◌then◌else◌, nat_le, nat_lt}
 use Rattle.std.specs.Str.{bytes_eq}
 use Rattle.std.proofs.lemmas.Bool.{and_parts, leb-true, ltb-true}
-use Rattle.std.proofs.lemmas.Option.{none-some}
 use Rattle.std.proofs.lemmas.List.Elements.{All-nil, All-cons, All-head, All-tail, All-push, All-filter, All-map, All-weaker}
 use Rattle.std.proofs.lemmas.List.Sums.{sum_by_push}
 use Rattle.queue_core.specs.declared.rows.Holder.{Holder}
@@ -34,22 +33,13 @@ use Rattle.mini_broker.specs.Record.{with_entered, with_handed, holder_as}
 use Rattle.broker_view.specs.View.{IsCounted}
 use Rattle.broker_view.specs.Suits.{Suits}
 use Rattle.broker_view.specs.Recorded.{recorded, session_holder}
+use Rattle.broker_view.proofs.Publications.{publication-skip}
 
 -- ---- the count
 
 pub count-push : (J : List Entry) (e : Entry) → copy_count (J ++ e ∷ []) ≡ copy_count J + copies_made e
 unfolding copy_count
 count-push J e = sum_by_push copies_made J e
-
-skip-by : (c : ℕ) (z : Publication) (B L : List Entry) (b : Bool) → cond b (Some z) (publication_of c B) ≡ None → (publication_of c B ≡ None → publication_of c (B ++ L) ≡ publication_of c L) → cond b (Some z) (publication_of c (B ++ L)) ≡ publication_of c L
-skip-by c z B L true h later = absurd (none-some z (sym h))
-skip-by c z B L false h later = later h
-
-publication-skip : (c : ℕ) (B L : List Entry) → publication_of c B ≡ None → publication_of c (B ++ L) ≡ publication_of c L
-unfolding publication_of
-publication-skip c [] L h = refl
-publication-skip c (Published z ∷ B) L h = skip-by c z B L (is_copy_of z c) h (publication-skip c B L)
-publication-skip c (e ∷ B) L h = publication-skip c B L h
 
 -- a number beyond those of the publication's copies
 beyond-by : (n c first : ℕ) (qs : List (List ℕ)) → first ≡ first_of (n + 1) qs → n + length qs < c → first ≤ c → c - first < length qs → ⊥

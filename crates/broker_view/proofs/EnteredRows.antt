@@ -7,24 +7,15 @@ use Rattle.std.proofs.lemmas.List.Elements.{All-nil, All-cons, All-head, All-tai
 use Rattle.amqp_props.specs.declared.message.Message.{Message}
 use Rattle.queue_core.specs.declared.rows.Row.{Row}
 use Rattle.queue_core.specs.Rows as rows
-use Rattle.std.specs.Str.{bytes_eq}
 use Rattle.fed_journal.specs.Names.{same_text}
 use Rattle.mini_broker.specs.Mail.{entered}
-use Rattle.mini_broker.specs.Queues.{Standing, Named, queue_of, changed, with_mail}
+use Rattle.mini_broker.specs.Queues.{Named, queue_of, changed, with_mail}
 use Rattle.mini_broker.specs.Publish.{all_entered}
+use Rattle.mini_broker.proofs.NameLemmas.{stands_changed}
 use Rattle.broker_view.specs.View.{AreDistinct, rows_in}
 use Rattle.broker_view.proofs.Names.{same_text-true}
 use Rattle.broker_view.proofs.Publications.{or_len-here, or_len-later}
 use Rattle.broker_view.proofs.QueueRows.{changed-rows}
-
--- no queue comes or goes
-stands_changed : (other name : List ℕ) (change : Standing Message → Standing Message) (queues : List (Named Message)) → is_some (queue_of other (changed name change queues)) ≡ is_some (queue_of other queues)
-stands_changed other name change [] = refl
-stands_changed other name change (q ∷ queues) =
-    elim (bytes_eq name q.0) as (λ b. is_some (queue_of other (cond b ((q.0, change q.1) ∷ queues) (q ∷ changed name change queues))) ≡ is_some (queue_of other (q ∷ queues))) [
-      | true ↦ elim (bytes_eq other q.0) as (λ b. is_some (cond b (Some (change q.1)) (queue_of other queues)) ≡ is_some (cond b (Some q.1) (queue_of other queues))) [ true ↦ refl | false ↦ refl ]
-      | false ↦ elim (bytes_eq other q.0) as (λ b. is_some (cond b (Some q.1) (queue_of other (changed name change queues))) ≡ is_some (cond b (Some q.1) (queue_of other queues))) [ true ↦ refl | false ↦ stands_changed other name change queues ]
-    ]
 
 -- ---- the place of a name
 

@@ -5,6 +5,7 @@ use Rattle.std.proofs.lemmas.Bool.{true≢false, false≢true, or_parts}
 use Rattle.std.proofs.lemmas.Option.{none-some, same_Some}
 use Rattle.std.proofs.lemmas.Iterator.Adapters.{position_from-zero}
 use Rattle.std.proofs.lemmas.List.Elements.{All-nil, All-cons, All-head, All-tail}
+use Rattle.broker_view.proofs.Tables.{none-filter}
 
 pub find-any : {X : Type 0} (p : X → Bool) (xs : List X) → find p xs ≡ None → list_any p xs ≡ false
 find-any p [] h = refl
@@ -50,16 +51,6 @@ abbrev pub Once : {X : Type 0} → (X → Bool) → List X → Type 0
 Once p [] = Unit {0}
 Once p (x ∷ xs) = (p x ≡ true → list_any p xs ≡ false) × Once p xs
 
-pub any-filter : {X : Type 0} (p t : X → Bool) (xs : List X) → list_any p xs ≡ false → list_any p (filter t xs) ≡ false
-any-filter p t [] h = refl
-any-filter p t (x ∷ xs) h =
-    let parts : (p x ≡ false) × (list_any p xs ≡ false) = or_parts (p x) (list_any p xs) h in
-    let rest : list_any p (filter t xs) ≡ false = any-filter p t xs parts.1 in
-    elim (t x) as (λ b. list_any p (cond b (x ∷ filter t xs) (filter t xs)) ≡ false) [
-      | true ↦ ap (λ b. b || list_any p (filter t xs)) parts.0 ∙ rest
-      | false ↦ rest
-    ]
-
 -- what was found, unless the test passes at it
 abbrev pub unless_it : {X : Type 0} → (X → Bool) → Option X → Option X
 unless_it q None = None
@@ -67,7 +58,7 @@ unless_it q (Some x) = cond (q x) None (Some x)
 
 filtered-by : {X : Type 0} (p q : X → Bool) (x : X) (xs : List X) (b c : Bool) → p x ≡ b → q x ≡ c → (p x ≡ true → list_any p xs ≡ false) → find p (filter (λ y. not (q y)) xs) ≡ unless_it q (find p xs) → find p (cond (not c) (x ∷ filter (λ y. not (q y)) xs) (filter (λ y. not (q y)) xs)) ≡ unless_it q (cond b (Some x) (find p xs))
 filtered-by p q x xs true true on gone once later =
-    any-find p (filter (λ y. not (q y)) xs) (any-filter p (λ y. not (q y)) xs (once on)) ∙ sym (ap (λ c. cond c None (Some x)) gone)
+    any-find p (filter (λ y. not (q y)) xs) (none-filter p (λ y. not (q y)) xs (once on)) ∙ sym (ap (λ c. cond c None (Some x)) gone)
 filtered-by p q x xs true false on kept once later =
     ap (λ b. cond b (Some x) (find p (filter (λ y. not (q y)) xs))) on ∙ sym (ap (λ c. cond c None (Some x)) kept)
 filtered-by p q x xs false true off gone once later = later
@@ -97,7 +88,7 @@ from-push p i (x ∷ xs) y none on =
     let parts : (p x ≡ false) × (list_any p xs ≡ false) = or_parts (p x) (list_any p xs) none in
     ap (λ b. cond b (Some i) (position_from p (i + 1) (xs ++ y ∷ []))) parts.0 ∙ from-push p (i + 1) xs y parts.1 on ∙ ap Some (omega arith)
 
-from-none : {X : Type 0} (p : X → Bool) (i : ℕ) (xs : List X) → list_any p xs ≡ false → position_from p i xs ≡ None
+pub from-none : {X : Type 0} (p : X → Bool) (i : ℕ) (xs : List X) → list_any p xs ≡ false → position_from p i xs ≡ None
 from-none p i [] none = refl
 from-none p i (x ∷ xs) none =
     let parts : (p x ≡ false) × (list_any p xs ≡ false) = or_parts (p x) (list_any p xs) none in

@@ -6,7 +6,6 @@ use Rattle.std.specs.Option.{option_map, option_map_or, option_or}
 use Rattle.std.proofs.lemmas.Bool.{and_parts, and_from, eqb-true, eq-eqb, false≢true, true≢false}
 use Rattle.std.proofs.lemmas.List.Elements.{All-nil, All-filter, All-map, All-push, All-weaker}
 use Rattle.std.proofs.lemmas.List.Folds.{find-append}
-use Rattle.std.proofs.lemmas.List.Sums.{sum_by_push}
 use Rattle.confirm_core.specs.Waits.{Unconfirmed, all_stored, released, without, without_wait}
 use Rattle.fed_journal.specs.declared.place.Place.{Place}
 use Rattle.fed_journal.specs.declared.entry.Publisher.{Publisher}
@@ -22,6 +21,7 @@ use Rattle.mini_broker.specs.State.{VhostState}
 use Rattle.broker_view.specs.Suits.{Suits}
 use Rattle.broker_view.specs.Told.{with_publication, must_wait, ready_copies, all_copies, told}
 use Rattle.broker_view.proofs.Names.{same_text-true, same_text-refl, same_text-sym, number-sym}
+use Rattle.broker_view.proofs.Published.{published-count}
 
 -- ---- the account that is found
 
@@ -208,17 +208,13 @@ below-none n = All-nil (λ (a : Account). Below n a.ledger)
 
 -- ---- an entry more
 
-count-push : (J : List Entry) (e : Entry) → publication_count (J ++ e ∷ []) ≡ publication_count J + cond (is_publication e) 1 0
-unfolding publication_count
-count-push J e = sum_by_push (λ (x : Entry). cond (is_publication x) 1 0) J e
-
 later-by : (k m : ℕ) (accounts : List Account) (b : Bool) → m ≡ k + cond b 1 0 → AreBelow (k + 1) accounts → AreBelow (m + 1) accounts
 later-by k m accounts true e below = below-more (k + 1) (m + 1) accounts (omega (arith, e)) below
 later-by k m accounts false e below = below-more (k + 1) (m + 1) accounts (omega (arith, e)) below
 
 -- what is below the next number still is after an entry
 later : (J : List Entry) (e : Entry) (accounts : List Account) → AreBelow (publication_count J + 1) accounts → AreBelow (publication_count (J ++ e ∷ []) + 1) accounts
-later J e accounts below = later-by (publication_count J) (publication_count (J ++ e ∷ [])) accounts (is_publication e) (count-push J e) below
+later J e accounts below = later-by (publication_count J) (publication_count (J ++ e ∷ [])) accounts (is_publication e) (published-count J e) below
 
 next-below : (n : ℕ) (publisher : Publisher) (x : Publication) (v : VhostState) (accounts : List Account) → x.number ≡ n → AreBelow n accounts → AreBelow (n + 1) (with_publication publisher x v accounts)
 next-below n (Client client) x v accounts e below = below-more n (n + 1) accounts (omega arith) below
@@ -253,5 +249,5 @@ kept-below n p _ v accounts none below = below
 -- what a place owes stays below the next number, whatever the entry
 pub told-below : (J : List Entry) (p : Place) (e : Entry) (v : VhostState) (accounts : List Account) → Suits J e → AreBelow (publication_count J + 1) accounts → AreBelow (publication_count (J ++ e ∷ []) + 1) (told p e v accounts)
 told-below J p (Published x) v accounts suits below =
-    subst (λ m. AreBelow (m + 1) (told p (Published x) v accounts)) (sym (count-push J (Published x))) (published-by (publication_count J + 1) x v accounts (same_place x.place p) suits.2 below)
+    subst (λ m. AreBelow (m + 1) (told p (Published x) v accounts)) (sym (published-count J (Published x))) (published-by (publication_count J + 1) x v accounts (same_place x.place p) suits.2 below)
 told-below J p e v accounts suits below = later J e (told p e v accounts) (kept-below (publication_count J + 1) p e v accounts refl below)

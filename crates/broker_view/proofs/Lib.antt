@@ -28,7 +28,6 @@ pub mod Questions
 pub mod QueueRows
 pub mod Reached
 pub mod RecordLemmas
-pub mod Routed
 pub mod Secured
 pub mod Sites
 pub mod Tables

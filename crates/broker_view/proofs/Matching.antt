@@ -89,7 +89,7 @@ change-row : (K : List Entry) (p : Place) (w : VhostState) (row : Row) (rows : L
 change-row K p w row rows c copies None f e m = matches-away K p w rows c copies (ap (is_there K) (sym e) ∙ f) m
 change-row K p w row rows c copies (Some now) f e m = matches-row K p w now rows c copies (f.0 ∙ e) f.1 m
 
-no_rows : (J : List Entry) (p : Place) (v : VhostState) (rows : List Row) → Matches J p v rows [] → rows ≡ []
+pub no_rows : (J : List Entry) (p : Place) (v : VhostState) (rows : List Row) → Matches J p v rows [] → rows ≡ []
 no_rows J p v [] m = refl
 no_rows J p v (row ∷ rows) m = absurd (none-some row.copy (sym (ap (λ ns. slice_get ns 0) m.numbers)))
 

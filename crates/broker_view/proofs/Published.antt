@@ -33,7 +33,7 @@ publications-push J e = filter_map-append (λ e. publication_in (Some e)) J (e �
 pub publications-same : (J : List Entry) (e : Entry) → publication_in (Some e) ≡ None → publications (J ++ e ∷ []) ≡ publications J
 publications-same J e none = publications-push J e ∙ ap (λ o. publications J ++ cons_option o []) none ∙ append-nil (publications J)
 
-published-count : (J : List Entry) (e : Entry) → publication_count (J ++ e ∷ []) ≡ publication_count J + cond (is_publication e) 1 0
+pub published-count : (J : List Entry) (e : Entry) → publication_count (J ++ e ∷ []) ≡ publication_count J + cond (is_publication e) 1 0
 unfolding publication_count
 published-count J e = sum_by_push (λ e. cond (is_publication e) 1 0) J e
 

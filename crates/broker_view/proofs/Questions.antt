@@ -1,10 +1,9 @@
 -- What the queues answer is what the journal says.
 use Rattle.std.proofs.Common.{◌≡◌, ℕ, ◌+◌, List, [], ◌∷◌, Bool, true, false, cond, not, Option, Some, None, arith, refl, sym, ap, ◌∙◌, inl, inr}
-use Rattle.std.specs.Prelude.{◌==◌, ◌&&◌, find, count_by, slice_get}
+use Rattle.std.specs.Prelude.{◌==◌, ◌&&◌, find, count_by}
 use Rattle.std.specs.List.{list_any}
 use Rattle.std.specs.Option.{option_map, option_map_or, option_and_then}
 use Rattle.std.proofs.lemmas.Bool.{true≢false}
-use Rattle.std.proofs.lemmas.Option.{none-some}
 use Rattle.std.proofs.lemmas.List.Sums.{sum_by-append}
 use Rattle.queue_core.specs.declared.rows.Holder.{Holder}
 use Rattle.queue_core.specs.declared.rows.Hold.{Hold}
@@ -27,7 +26,7 @@ use Rattle.mini_broker.specs.Queues.{Named, queue_of}
 use Rattle.mini_broker.specs.Deliver as deliver
 use Rattle.mini_broker.specs.State.{VhostState}
 use Rattle.broker_view.specs.View.{HasCopies, StandsAs, RowStands, IsHolder, is_there, rows_in}
-use Rattle.broker_view.proofs.Matching.{Matches, matches-cases}
+use Rattle.broker_view.proofs.Matching.{Matches, matches-cases, no_rows}
 use Rattle.broker_view.proofs.CopySteps.{ready-as}
 
 -- ---- tests of rows and of copies
@@ -37,16 +36,12 @@ pub record SaySame (J : List Entry) (p : Place) (v : VhostState) (test : Row →
   pub rows : (row : Row) → RowStands J p v row → test row ≡ says row.copy
   pub away : (c : ℕ) → is_there J c ≡ false → says c ≡ false
 
-empty-rows : (J : List Entry) (p : Place) (v : VhostState) (rs : List Row) → Matches J p v rs [] → rs ≡ []
-empty-rows J p v [] m = refl
-empty-rows J p v (row ∷ rs) m = absurd (none-some row.copy (sym (ap (λ ns. slice_get ns 0) m.numbers)))
-
 find-row : (says : ℕ → Bool) (test : Row → Bool) (row : Row) (rest : List Row) (c : ℕ) (cs : List ℕ) (b : Bool) → test row ≡ b → test row ≡ says c → row.copy ≡ c → option_map (λ (r : Row). r.copy) (find test rest) ≡ find says cs → option_map (λ (r : Row). r.copy) (cond b (Some row) (find test rest)) ≡ cond (says c) (Some c) (find says cs)
 find-row says test row rest c cs true on same is later = ap (λ n. Some n) is ∙ sym (ap (λ b. cond b (Some c) (find says cs)) (sym same ∙ on))
 find-row says test row rest c cs false off same is later = later ∙ sym (ap (λ b. cond b (Some c) (find says cs)) (sym same ∙ off))
 
 pub find-as : (J : List Entry) (p : Place) (v : VhostState) (test : Row → Bool) (says : ℕ → Bool) → SaySame J p v test says → (cs : List ℕ) (rs : List Row) → Matches J p v rs cs → option_map (λ (r : Row). r.copy) (find test rs) ≡ find says cs
-find-as J p v test says say [] rs m = ap (λ x. option_map (λ (r : Row). r.copy) (find test x)) (empty-rows J p v rs m)
+find-as J p v test says say [] rs m = ap (λ x. option_map (λ (r : Row). r.copy) (find test x)) (no_rows J p v rs m)
 find-as J p v test says say (c ∷ cs) rs m = elim (matches-cases J p v rs c cs m) [
   | inl r ↦ ap (λ x. option_map (λ (y : Row). y.copy) (find test x)) r.rows'
       ∙ find-row says test r.row r.rest c cs (test r.row) refl (say.rows r.row r.stands ∙ ap says r.copy) r.copy (find-as J p v test says say cs r.rest r.matches)
@@ -57,7 +52,7 @@ count-cons : {X : Type 0} (test : X → Bool) (x : X) (xs : List X) → count_by
 count-cons test x xs = sum_by-append (λ x. cond (test x) 1 0) (x ∷ []) xs ∙ omega arith
 
 pub count-as : (J : List Entry) (p : Place) (v : VhostState) (test : Row → Bool) (says : ℕ → Bool) → SaySame J p v test says → (cs : List ℕ) (rs : List Row) → Matches J p v rs cs → count_by test rs ≡ count_by says cs
-count-as J p v test says say [] rs m = ap (count_by test) (empty-rows J p v rs m)
+count-as J p v test says say [] rs m = ap (count_by test) (no_rows J p v rs m)
 count-as J p v test says say (c ∷ cs) rs m = elim (matches-cases J p v rs c cs m) [
   | inl r ↦ ap (count_by test) r.rows'
       ∙ count-cons test r.row r.rest

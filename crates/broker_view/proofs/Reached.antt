@@ -6,6 +6,7 @@ use Rattle.std.specs.Option.{option_map}
 use Rattle.std.specs.Str.{bytes_eq}
 use Rattle.std.proofs.lemmas.Bool.{false≢true, and_parts, and_from, or_parts, or_from, or_left, or_right}
 use Rattle.std.proofs.lemmas.List.Elements.{All-nil, All-cons, All-map, All-weaker}
+use Rattle.route_core.specs.SameBindings.{sort_self}
 use Rattle.amqp_props.specs.declared.message.Message.{Message}
 use Rattle.route_core.specs.declared.binding.Binding.{Binding}
 use Rattle.route_core.specs.declared.object.Node.{Node}
@@ -34,10 +35,6 @@ use Rattle.broker_view.proofs.Sites.{filter-with}
 
 -- ---- each stands
 
-sort-refl : (s : Sort) → same_sort s s ≡ true
-sort-refl sorts.Queue = refl
-sort-refl sorts.Exchange = refl
-
 sort-sym : (s t : Sort) → same_sort s t ≡ same_sort t s
 sort-sym sorts.Queue sorts.Queue = refl
 sort-sym sorts.Queue sorts.Exchange = refl
@@ -48,7 +45,7 @@ each-there : (objects : List Object) → All (λ o. has (sort_of o.node) o.name 
 each-there [] = All-nil (λ (o : Object). has (sort_of o.node) o.name [] ≡ true)
 each-there (o ∷ objects) =
     All-cons (λ (x : Object). has (sort_of x.node) x.name (o ∷ objects) ≡ true) o objects
-    (or_left (is_named (sort_of o.node) o.name o) (has (sort_of o.node) o.name objects) (and_from (same_sort (sort_of o.node) (sort_of o.node)) (bytes_eq o.name o.name) (sort-refl (sort_of o.node)) (same_text-refl o.name)))
+    (or_left (is_named (sort_of o.node) o.name o) (has (sort_of o.node) o.name objects) (and_from (same_sort (sort_of o.node) (sort_of o.node)) (bytes_eq o.name o.name) (sort_self (sort_of o.node)) (same_text-refl o.name)))
     (All-weaker (λ (x : Object). has (sort_of x.node) x.name objects ≡ true) (λ x. has (sort_of x.node) x.name (o ∷ objects) ≡ true) (λ x h. or_right (is_named (sort_of x.node) x.name o) (has (sort_of x.node) x.name objects) h) objects (each-there objects))
 
 queue-there : (s : Sort) (name : List ℕ) (objects : List Object) → same_sort s sorts.Queue ≡ true → has s name objects ≡ true → has sorts.Queue name objects ≡ true

@@ -1,24 +1,24 @@
 -- Which copies are secured after one entry more (RabbitMQ, Publisher Confirms: when messages are confirmed).
 use Rattle.std.proofs.Common.{◌≡◌, ℕ, zero, suc, ◌+◌, ◌-◌, ◌<◌, List, [], ◌∷◌, ◌++◌, length, Bool, true, false, Some, None, arith, refl, sym, ap, ◌∙◌, take, drop, unwrap_or, length-append}
 use Rattle.std.specs.Prelude.{cond, not, ◌&&◌, ◌||◌, position, slice_get}
-use Rattle.std.specs.List.{list_any, position_from}
+use Rattle.std.specs.List.{list_any}
 use Rattle.std.proofs.lemmas.Bool.{true≢false, or_parts, not-false}
 use Rattle.std.proofs.lemmas.Option.{none-some}
 use Rattle.std.proofs.lemmas.Iterator.Adapters.{position_from-zero}
 use Rattle.std.proofs.lemmas.List.{take-append-le, take_at, drop-append-le, drop_all}
-use Rattle.std.proofs.lemmas.List.Folds.{list_any-append}
 use Rattle.fed_journal.specs.declared.entry.Publication.{Publication}
 use Rattle.fed_journal.specs.declared.entry.Entry.{Entry}
 use Rattle.fed_journal.specs.declared.entry.Entry.TheVariants.{Published}
 use Rattle.fed_journal.specs.Messages.{is_persistent}
 use Rattle.fed_journal.specs.Copies.{Standing, Left, is_left, standing, standing_step, moved, is_copy_of, enters, flushes, publication_in, publication_of, is_lasting_at, is_copy_secured, is_stored, must_be_stored, must_be_stored_at, must_be_stored_from, is_flushed_in, is_flushed_from}
+use Rattle.mini_broker.proofs.NameLemmas.{any_push}
 use Rattle.broker_view.specs.View.{is_there}
-use Rattle.broker_view.proofs.Finds.{position-some, position-longer, position-push}
+use Rattle.broker_view.proofs.Finds.{position-some, position-longer, position-push, from-none}
 use Rattle.broker_view.proofs.Publications.{position-none, position-here, position-later, position-within, standing-push, standing-fresh}
 
 -- ---- lists
 
-slice_get-append : {X : Type 0} (xs ys : List X) (i : ℕ) → i < length xs → slice_get (xs ++ ys) i ≡ slice_get xs i
+pub slice_get-append : {X : Type 0} (xs ys : List X) (i : ℕ) → i < length xs → slice_get (xs ++ ys) i ≡ slice_get xs i
 slice_get-append [] ys i h = absurd (omega (arith, h))
 slice_get-append (x ∷ xs) ys zero h = refl
 slice_get-append (x ∷ xs) ys (suc i) h = slice_get-append xs ys i (omega (arith, h))
@@ -26,19 +26,6 @@ slice_get-append (x ∷ xs) ys (suc i) h = slice_get-append xs ys i (omega (arit
 slice_get-last : {X : Type 0} (xs : List X) (y : X) → slice_get (xs ++ y ∷ []) (length xs) ≡ Some y
 slice_get-last [] y = refl
 slice_get-last (x ∷ xs) y = slice_get-last xs y
-
-or-false : (a : Bool) → (a || false) ≡ a
-or-false true = refl
-or-false false = refl
-
-any-push : {X : Type 0} (p : X → Bool) (xs : List X) (y : X) → list_any p (xs ++ y ∷ []) ≡ (list_any p xs || p y)
-any-push p xs y = list_any-append p xs (y ∷ []) ∙ ap (λ b. list_any p xs || b) (or-false (p y))
-
-from-none : {X : Type 0} (p : X → Bool) (i : ℕ) (xs : List X) → list_any p xs ≡ false → position_from p i xs ≡ None
-from-none p i [] none = refl
-from-none p i (x ∷ xs) none =
-    let parts : (p x ≡ false) × (list_any p xs ≡ false) = or_parts (p x) (list_any p xs) none in
-    ap (λ b. cond b (Some i) (position_from p (i + 1) xs)) parts.0 ∙ from-none p (i + 1) xs parts.1
 
 position-last : {X : Type 0} (p : X → Bool) (xs : List X) (y : X) → list_any p xs ≡ false → p y ≡ true → position p (xs ++ y ∷ []) ≡ Some (length xs)
 position-last p xs y none on =
@@ -78,7 +65,7 @@ at-other c e K i none h later =
     let s : (j : ℕ) × (i ≡ suc j) × (position (enters c) K ≡ Some j) = position-later (enters c) e K i none h in
     ap (λ n. publication_in (slice_get (e ∷ K) n)) s.1 ∙ later s.0 s.2
 
-publication-at : (c : ℕ) (K : List Entry) (i : ℕ) → position (enters c) K ≡ Some i → publication_in (slice_get K i) ≡ publication_of c K
+pub publication-at : (c : ℕ) (K : List Entry) (i : ℕ) → position (enters c) K ≡ Some i → publication_in (slice_get K i) ≡ publication_of c K
 unfolding publication_of
 publication-at c [] i h = absurd (position-none (enters c) i h)
 publication-at c (Published y ∷ K) i h = at-by c y K i (is_copy_of y c) refl h (publication-at c K)
@@ -113,7 +100,7 @@ flushed-push J e c x a =
     ∙ ap (λ K. is_flushed_in K (publication_in (slice_get (J ++ e ∷ []) a.index))) (drop-append-le (a.index + 1) J (e ∷ []) (omega (arith, a.within)))
     ∙ ap (λ g. is_flushed_in (drop (a.index + 1) J ++ e ∷ []) (publication_in g)) (slice_get-append J (e ∷ []) a.index a.within)
     ∙ ap (is_flushed_in (drop (a.index + 1) J ++ e ∷ [])) a.there
-    ∙ any-push (flushes x.place.broker) (drop (a.index + 1) J) e
+    ∙ any_push (flushes x.place.broker) (drop (a.index + 1) J) e
     ∙ sym (ap (λ o. is_flushed_in (drop (a.index + 1) J) o || flushes x.place.broker e) a.there)
     ∙ sym (ap (λ o. is_flushed_from J o || flushes x.place.broker e) a.at)
 

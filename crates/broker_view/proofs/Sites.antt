@@ -4,7 +4,7 @@ use Rattle.std.specs.Prelude.{All, filter, fold, if◌then◌else◌, ◌&&◌}
 use Rattle.std.specs.List.{list_any}
 use Rattle.std.specs.Map.{lookup}
 use Rattle.std.specs.Str.{bytes_eq}
-use Rattle.std.proofs.lemmas.Bool.{true≢false, false≢true, and_parts, or_parts, or_left}
+use Rattle.std.proofs.lemmas.Bool.{true≢false, false≢true, and_parts, or_parts, or_left, not-true}
 use Rattle.std.proofs.lemmas.List.Elements.{All-nil, All-cons, All-head, All-tail, All-push, All-weaker, All-filter}
 use Rattle.std.proofs.lemmas.List.Folds.{list_any-append}
 use Rattle.std.proofs.lemmas.Map.Entries.{lookup-filter-keys}
@@ -72,10 +72,6 @@ apart : (s t : Sort) (name dest queue : List ℕ) → (same_sort t sorts.Queue &
 apart sorts.Exchange t name dest queue h k = refl
 apart sorts.Queue sorts.Exchange name dest queue h k = absurd (false≢true k)
 apart sorts.Queue sorts.Queue name dest queue h k = ap (λ n. not (bytes_eq n queue)) (same_text-true name dest k) ∙ ap not h
-
-not-true : (b : Bool) → not b ≡ true → b ≡ false
-not-true true h = absurd (false≢true h)
-not-true false h = refl
 
 gone-ends : (queue : List ℕ) (r : Routing) → HaveEnds r → HaveEnds (gone queue r)
 gone-ends queue r h =

@@ -77,17 +77,17 @@ ready-rows J p v (row ∷ rs) k =
     ∙ row-kept row (filter rows.is_ready rs) (filter (is_ready J) (map (λ (r : Row). r.copy) rs)) (is_ready J row.copy) (ready-rows J p v rs (All-tail (RowStands J p v) row rs k))
 
 -- a purge takes the copies that wait in their home (AMQP 0-9-1, queue.purge)
-pub purged-member : (J : List Entry) (p : Place) (q : List ℕ) (v : VhostState) (x : Publication) (c : ℕ) → HasCopies J p v → IsKnown J x → x.place ≡ p → is_copy_of x c ≡ true → is_there J c ≡ true →
+pub purged-member : (J : List Entry) (p : Place) (q : List ℕ) (v : VhostState) (x : Publication) (c : ℕ) → HasCopies J p v → IsKnown J x → is_copy_of x c ≡ true → is_there J c ≡ true →
     (is_waiting (standing c J) && is_home x c p q) ≡ list_any (λ n. n == c) (ready_copies q v)
-purged-member J p q v x c has known at copy there =
+purged-member J p q v x c has known copy there =
     ap (λ b. is_waiting (standing c J) && b) (home-member J p q x c has.homes known copy ∙ sym (there-member J c (entered J p q) there))
     ∙ sym (any-kept (is_ready J) c (filter (is_there J) (entered J p q)))
     ∙ ap (list_any (λ n. n == c)) (sym (ready-rows J p v (rows_in q v.queues) (has.rows q) ∙ ap (filter (is_ready J)) (has.numbers q)))
 
 -- a queue takes all copies of which it is the home with it (AMQP 0-9-1, queue.delete)
-pub gone-member : (J : List Entry) (p : Place) (q : List ℕ) (v : VhostState) (x : Publication) (c : ℕ) → HasCopies J p v → IsKnown J x → x.place ≡ p → is_copy_of x c ≡ true → is_there J c ≡ true →
+pub gone-member : (J : List Entry) (p : Place) (q : List ℕ) (v : VhostState) (x : Publication) (c : ℕ) → HasCopies J p v → IsKnown J x → is_copy_of x c ≡ true → is_there J c ≡ true →
     is_home x c p q ≡ list_any (λ n. n == c) (all_copies q v)
-gone-member J p q v x c has known at copy there =
+gone-member J p q v x c has known copy there =
     home-member J p q x c has.homes known copy ∙ sym (there-member J c (entered J p q) there) ∙ ap (list_any (λ n. n == c)) (sym (has.numbers q))
 
 -- ---- a new publication

@@ -1,5 +1,6 @@
 -- What an entry of the journal does to a virtual host.
-use Rattle.std.specs.Prelude.{ℕ, Bool, true, false, not, ◌&&◌, if◌then◌else◌}
+use Rattle.std.specs.Prelude.{ℕ, Bool, true, false, not, ◌&&◌, if◌then◌else◌, List, [], ◌∷◌, ◌++◌, length, is_some, position}
+use Rattle.std.specs.Option.{option_map_or}
 use Rattle.queue_core.specs.declared.rows.Holder.{Holder}
 use Rattle.fed_journal.specs.declared.place.Place.{Place}
 use Rattle.fed_journal.specs.declared.entry.Entry.{Entry}
@@ -14,6 +15,24 @@ use Rattle.mini_broker.specs.Consume.{new_consumer, with_consumer, without_consu
 use Rattle.mini_broker.specs.Settle.{with_purged, all_swept}
 use Rattle.mini_broker.specs.Close.{disconnected, without_queue}
 use Rattle.mini_broker.specs.Record.{with_entered, with_handed, with_taken, with_settled, with_released}
+
+-- the place of the link's name among those; the next place if it is new (RabbitMQ, Dynamic Shovels: a shovel has a name)
+abbrev pub link_place : List ℕ → List (List ℕ) → ℕ
+link_place l links = option_map_or (λ n. n) (position (λ known. same_text known l) links) (length links)
+
+-- each link stands there once, in the order in which they came
+abbrev pub with_link : List ℕ → List (List ℕ) → List (List ℕ)
+with_link l links = if is_some (position (λ known. same_text known l) links) then links else links ++ l ∷ []
+
+-- the links that took copies (AMQP 0-9-1, basic.deliver)
+abbrev pub with_taker : Entry → List (List ℕ) → List (List ℕ)
+with_taker (Took l session copy) links = with_link l links
+with_taker _ links = links
+
+-- a link that takes a copy is numbered by its place among them; no other entry needs a number
+abbrev pub taker_number : Entry → List (List ℕ) → ℕ
+taker_number (Took l session copy) links = link_place l links
+taker_number _ links = 0
 
 -- a session of a link, by the link's number
 abbrev pub session_holder : ℕ → ℕ → Holder

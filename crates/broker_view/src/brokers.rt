@@ -1,9 +1,10 @@
 //! The brokers of a run, which follow its journal.
 
-ghost use Rattle.std.specs.Prelude.{◌≡◌, ◌++◌, [], All, OnOk, map};
+ghost use Rattle.std.specs.Prelude.{◌≡◌, ◌++◌, [], All, IfOk, OnOk, map, position};
 ghost use Rattle.std.specs.List.{list_any};
 ghost use Rattle.fed_journal.specs.Names.{same_text};
 ghost use Rattle.fed_journal.specs.Copies.{IsFitting};
+ghost use Rattle.broker_view.specs.Recorded.{link_place, with_link, taker_number, with_taker};
 ghost use Rattle.broker_view.specs.Suits.{EachSuits};
 ghost use Rattle.broker_view.specs.Hosts.{recorded_at, with_host as hosts_with, AreViews, IsRecordable, IsTellable, IsNext, LeadsOn};
 
@@ -47,22 +48,44 @@ fn add_host(alloc: Global, hosts: &mut Vec<Host>, broker: &Text) -> Result<(), A
     Ok(())
 }
 
+/// The place of the link in the list.
+fn place_of(links: &[Text], link: &Text) -> Option<usize>
+    ensures { result ≡ position (λ known. same_text known link.now) links.now }
+{
+    links.iter().position(|known| *known == *link)
+}
+
+/// The place of the link among those that took copies, at their end if it is new.
+///
+/// # Errors
+///
+/// For want of memory.
+fn taker_place(links: &mut Vec<Text>, link: &Text) -> Result<usize, AllocError>
+    ensures place { IfOk result (λ place. place ≡ link_place link.now links.old.items) }
+    ensures links { OnOk result (links.new.items ≡ with_link link.now links.old.items) }
+{
+    match place_of(links, link) {
+        Some(place) => Ok(place),
+        None => {
+            links.push(link.clone()?)?;
+            Ok(links.len() - 1)
+        }
+    }
+}
+
 /// The number of the link, which it gets when it first takes a copy.
 ///
 /// # Errors
 ///
 /// For want of memory, or where there is no number left.
-fn link_number(links: &mut Vec<Text>, entry: &Entry) -> Result<u32, AllocError> {
+fn link_number(links: &mut Vec<Text>, entry: &Entry) -> Result<u32, AllocError>
+    ensures number { IfOk result (λ number. number ≡ taker_number entry.now links.old.items) }
+    ensures links { OnOk result (links.new.items ≡ with_taker entry.now links.old.items) }
+{
     let Entry::Took { link, .. } = entry else {
         return Ok(0);
     };
-    let place = match links.iter().position(|known| *known == *link) {
-        Some(place) => place,
-        None => {
-            links.push(link.clone()?)?;
-            links.len() - 1
-        }
-    };
+    let place = taker_place(links, link)?;
     match u32::try_from(place) {
         Ok(number) => Ok(number),
         Err(_) => Err(AllocError),

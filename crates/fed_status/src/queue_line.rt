@@ -7,9 +7,9 @@ use amqp_props::Text;
 use fed_journal::entry::Entry;
 use fed_journal::page::Page;
 use fed_journal::place::Place;
+use journal_scan::configuration::queues_of;
 use journal_scan::copies::{entered_by, is_gone, is_stored};
 use journal_scan::holds::{entered, is_held, ready_count};
-use journal_scan::owners::queues_of;
 use std::alloc::{AllocError, Global};
 
 /// How many copies of the queue are handed out and not acknowledged.

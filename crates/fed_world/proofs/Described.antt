@@ -16,9 +16,9 @@ use Rattle.fed_journal.specs.Names.{same_text, same_place}
 use Rattle.fed_journal.specs.declared.link.TheConstants.{DEFAULT_PREFETCH}
 use Rattle.fed_journal.specs.Words.{shovel_link_name}
 use Rattle.fed_journal.specs.Links.{place_at, place_named, start_state, spec_of, links_set_by, links_of_broker, links_of, is_named, link_of, sets_shovel, is_shovel_set}
+use Rattle.broker_view.proofs.Names.{same_text-true, same_text-refl}
 use Rattle.fed_world.specs.Kept.{StandsAfter}
 use Rattle.fed_world.proofs.Causes.{is_begun, Caused, EachCaused, caused-append, caused-back, caused-at}
-use Rattle.fed_world.proofs.Inversions.{same_text-true, same_text-refl}
 use Rattle.fed_world.proofs.LinkNames.{names-apart}
 use Rattle.fed_world.proofs.Lists.{IsIn, Split, find-in, in-flat, any-middle}
 

@@ -12,13 +12,14 @@ use Rattle.fed_journal.specs.Holders.{Session, Channel}
 use Rattle.fed_journal.specs.Copies.{Standing, Ready, Held, Left, enters, is_gone, is_home, is_left, publication_of, standing, standing_step, handed}
 use Rattle.fed_journal.specs.Flight.{has, settled_for, is_number}
 use Rattle.fed_journal.specs.Holds.{holder, holder_in, is_ready, is_held_by}
+use Rattle.broker_view.proofs.Publications.{standing-push}
 use Rattle.fed_world.specs.Kept.{StandsAfter, IsMoved, RemovesHeld, HoldsTaken, is_alive}
 use Rattle.fed_world.proofs.Causes.{Caused, EachCaused, WasNoted, caused-append, caused-at}
 use Rattle.fed_world.proofs.Homes.{taken-home}
 use Rattle.fed_world.proofs.Inversions.{settled_for-same}
 use Rattle.fed_world.proofs.Lists.{IsIn, in-middle, in-longer, in-push_cases, in-split, any-middle}
 use Rattle.fed_world.proofs.Moved.{moved-at}
-use Rattle.fed_world.proofs.Standings.{published-of, standing-push, waiting-is, is_with_session, client-has_it}
+use Rattle.fed_world.proofs.Standings.{published-of, waiting-is, is_with_session, client-has_it}
 use Rattle.fed_world.proofs.Stored.{list_any-longer}
 
 -- whether nobody has it

@@ -1,9 +1,8 @@
 -- The queue of a copy that is stored, or that a link took, belongs to no connection alone.
 use Rattle.std.proofs.Common.{◌≡◌, ℕ, zero, suc, ◌+◌, ◌-◌, ◌<◌, ◌≤◌, List, [], ◌∷◌, ◌++◌, length, Bool, true, false, Option, Some, None, arith, refl, sym, ap, subst, ◌∙◌, take, drop}
 use Rattle.std.specs.Prelude.{cond, not, ◌&&◌, nat_le, nat_lt, position, slice_get, option_map, filter_map}
-use Rattle.std.specs.List.{position_or_len}
 use Rattle.std.proofs.lemmas.Bool.{false≢true, and_parts, and_from, le-leb, leb-true, ltb-true, lt-ltb}
-use Rattle.std.proofs.lemmas.Option.{none-some, same_Some, cond_some}
+use Rattle.std.proofs.lemmas.Option.{none-some, same_Some}
 use Rattle.std.proofs.lemmas.List.Sums.{sum_by-append}
 use Rattle.amqp_props.specs.declared.link.QueueOptions.{QueueOptions}
 use Rattle.fed_journal.specs.declared.place.Place.{Place}
@@ -16,59 +15,20 @@ use Rattle.fed_journal.specs.Copies.{copies_made, copy_count, is_copy_of, enters
 use Rattle.fed_journal.specs.Holds.{is_ready, first_ready}
 use Rattle.fed_journal.specs.Links.{link_of}
 use Rattle.fed_journal.specs.Names.{same_text, same_place}
+use Rattle.broker_view.proofs.Names.{same_text-true, same_place-true}
+use Rattle.broker_view.proofs.Publications.{publication-skip, publication-head, publication-longer, position-none, position-here, position-later, position-within}
+use Rattle.broker_view.proofs.Secured.{publication-at}
 use Rattle.fed_world.specs.Kept.{StandsAfter}
 use Rattle.fed_world.specs.Publish.{first_copy}
 use Rattle.fed_world.specs.Take.{first_ready_at}
 use Rattle.fed_world.proofs.Causes.{is_shared, is_shared_in, Caused, EachCaused, SharesSource, TakesFirst, caused-at, caused-back}
 use Rattle.fed_world.proofs.Described.{described-later}
-use Rattle.fed_world.proofs.Inversions.{same_text-true}
 use Rattle.fed_world.proofs.Lists.{IsIn, Split, find-in, filter_map-in, in-split}
 use Rattle.fed_world.proofs.LastOpened.{WasOpened}
 use Rattle.fed_world.proofs.Standings.{published-of}
-use Rattle.fed_world.proofs.Queues.{same_place-true, shared-each}
+use Rattle.fed_world.proofs.Queues.{shared-each}
 
 -- ---- stored copies
-
-position-none : {X : Type 0} (p : X → Bool) (i : ℕ) → position p [] ≡ Some i → ⊥
-position-none p i h = none-some i h
-
--- the first place in a longer list
-or_len-here : {X : Type 0} (p : X → Bool) (x : X) (xs : List X) → p x ≡ true → position_or_len p (x ∷ xs) ≡ 0
-or_len-here p x xs h = ap (λ b. cond (not b) (1 + position_or_len p xs) 0) h
-
-or_len-later : {X : Type 0} (p : X → Bool) (x : X) (xs : List X) → p x ≡ false → position_or_len p (x ∷ xs) ≡ suc (position_or_len p xs)
-or_len-later p x xs h = ap (λ b. cond (not b) (1 + position_or_len p xs) 0) h ∙ omega arith
-
-position-here : {X : Type 0} (p : X → Bool) (x : X) (xs : List X) (i : ℕ) → p x ≡ true → position p (x ∷ xs) ≡ Some i → i ≡ 0
-position-here p x xs i h k =
-    sym (cond_some (nat_lt (position_or_len p (x ∷ xs)) (length (x ∷ xs))) (position_or_len p (x ∷ xs)) i k).1 ∙ or_len-here p x xs h
-
-position-later : {X : Type 0} (p : X → Bool) (x : X) (xs : List X) (i : ℕ) → p x ≡ false → position p (x ∷ xs) ≡ Some i → (j : ℕ) × (i ≡ suc j) × (position p xs ≡ Some j)
-position-later p x xs i h k =
-    let n : ℕ = position_or_len p xs in
-    let parts : (nat_lt (position_or_len p (x ∷ xs)) (length (x ∷ xs)) ≡ true) × (position_or_len p (x ∷ xs) ≡ i) = cond_some (nat_lt (position_or_len p (x ∷ xs)) (length (x ∷ xs))) (position_or_len p (x ∷ xs)) i k in
-    let later : position_or_len p (x ∷ xs) ≡ suc n = or_len-later p x xs h in
-    let within : position_or_len p (x ∷ xs) < length (x ∷ xs) = ltb-true (position_or_len p (x ∷ xs)) (length (x ∷ xs)) parts.0 in
-    (n, sym parts.1 ∙ later, ap (λ b. cond b (Some n) None) (lt-ltb n (length xs) (omega (arith, later, within))))
-
-at-by : (c : ℕ) (y : Publication) (K : List Entry) (i : ℕ) (b : Bool) → is_copy_of y c ≡ b → position (enters c) (Published y ∷ K) ≡ Some i → ((j : ℕ) → position (enters c) K ≡ Some j → publication_in (slice_get K j) ≡ publication_of c K) → publication_in (slice_get (Published y ∷ K) i) ≡ cond b (Some y) (publication_of c K)
-at-by c y K i true e h later =
-    ap (λ n. publication_in (slice_get (Published y ∷ K) n)) (position-here (enters c) (Published y) K i e h)
-at-by c y K i false e h later =
-    let s : (j : ℕ) × (i ≡ suc j) × (position (enters c) K ≡ Some j) = position-later (enters c) (Published y) K i e h in
-    ap (λ n. publication_in (slice_get (Published y ∷ K) n)) s.1 ∙ later s.0 s.2
-
-at-other : (c : ℕ) (e : Entry) (K : List Entry) (i : ℕ) → enters c e ≡ false → position (enters c) (e ∷ K) ≡ Some i → ((j : ℕ) → position (enters c) K ≡ Some j → publication_in (slice_get K j) ≡ publication_of c K) → publication_in (slice_get (e ∷ K) i) ≡ publication_of c K
-at-other c e K i none h later =
-    let s : (j : ℕ) × (i ≡ suc j) × (position (enters c) K ≡ Some j) = position-later (enters c) e K i none h in
-    ap (λ n. publication_in (slice_get (e ∷ K) n)) s.1 ∙ later s.0 s.2
-
--- where the copy entered stands its publication
-publication-at : (c : ℕ) (K : List Entry) (i : ℕ) → position (enters c) K ≡ Some i → publication_in (slice_get K i) ≡ publication_of c K
-unfolding publication_of
-publication-at c [] i h = absurd (position-none (enters c) i h)
-publication-at c (Published y ∷ K) i h = at-by c y K i (is_copy_of y c) refl h (publication-at c K)
-publication-at c (e ∷ K) i h = at-other c e K i refl h (publication-at c K)
 
 lasting-shared : (o : Option QueueOptions) → is_lasting o ≡ true → is_shared_in o ≡ true
 lasting-shared None h = absurd (false≢true h)
@@ -160,20 +120,6 @@ published-in c [] y h = absurd (none-some y h)
 published-in c (Published z ∷ K) y h = published-by c z y K (is_copy_of z c) refl h (published-in c K y)
 published-in c (e ∷ K) y h = published-later e K c y (published-in c K y h)
 
-skip-by : (c : ℕ) (z : Publication) (B L : List Entry) (b : Bool) → cond b (Some z) (publication_of c B) ≡ None → (publication_of c B ≡ None → publication_of c (B ++ L) ≡ publication_of c L) → cond b (Some z) (publication_of c (B ++ L)) ≡ publication_of c L
-skip-by c z B L true h later = absurd (none-some z (sym h))
-skip-by c z B L false h later = later h
-
-publication-skip : (c : ℕ) (B L : List Entry) → publication_of c B ≡ None → publication_of c (B ++ L) ≡ publication_of c L
-unfolding publication_of
-publication-skip c [] L h = refl
-publication-skip c (Published z ∷ B) L h = skip-by c z B L (is_copy_of z c) h (publication-skip c B L)
-publication-skip c (e ∷ B) L h = publication-skip c B L h
-
-publication-head : (c : ℕ) (y : Publication) (L : List Entry) → is_copy_of y c ≡ true → publication_of c (Published y ∷ L) ≡ Some y
-unfolding publication_of
-publication-head c y L h = ap (λ b. cond b (Some y) (publication_of c L)) h
-
 -- copies are numbered once
 unique-by : (K B : List Entry) (y : Publication) (c : ℕ) (o : Option Publication) → EachCaused [] B → StandsAfter B (Published y) K → IsNumbered B y c → is_copy_of y c ≡ true → publication_of c B ≡ o → publication_of c K ≡ Some y
 unique-by K B y c None caused stands n copy e =
@@ -190,11 +136,6 @@ publication-unique K B y c caused stands copy =
     unique-by K B y c (publication_of c B) cause.0 stands (copy-numbered B y c cause.1.1 copy) copy refl
 
 -- ---- copies that a link took
-
-pub position-within : {X : Type 0} (p : X → Bool) (xs : List X) (i : ℕ) → position p xs ≡ Some i → i < length xs
-position-within p xs i h =
-    let parts : (nat_lt (position_or_len p xs) (length xs) ≡ true) × (position_or_len p xs ≡ i) = cond_some (nat_lt (position_or_len p xs) (length xs)) (position_or_len p xs) i h in
-    subst (λ n. n < length xs) parts.1 (ltb-true (position_or_len p xs) (length xs) parts.0)
 
 -- a copy that a publication brought into a queue is one of its copies
 copy-of : (q : List ℕ) (x : Publication) (c : ℕ) (o : Option ℕ) → position (same_text q) x.queues ≡ o → option_map (λ k. x.first + k) o ≡ Some c → is_copy_of x c ≡ true
@@ -288,16 +229,6 @@ took-home K l s c x r n caused cause of_copy home =
     let same : spec ≡ first.spec = same_Some spec first.spec (sym later ∙ first.described) in
     let shares : SharesSource opened.0 first.spec = subst (SharesSource opened.0) same at.1.2 in
     took-from K first.spec.source first.spec.source_queue c x r n caused first.first of_copy (λ p e. shared-since K opened.0 (Opened l s opened.1) p first.spec.source_queue caused opened.2 (shares p e)) home
-
-longer-by : (c : ℕ) (z y : Publication) (B L : List Entry) (b : Bool) → cond b (Some z) (publication_of c B) ≡ Some y → (publication_of c B ≡ Some y → publication_of c (B ++ L) ≡ Some y) → cond b (Some z) (publication_of c (B ++ L)) ≡ Some y
-longer-by c z y B L true h later = h
-longer-by c z y B L false h later = later h
-
-publication-longer : (c : ℕ) (B L : List Entry) (y : Publication) → publication_of c B ≡ Some y → publication_of c (B ++ L) ≡ Some y
-unfolding publication_of
-publication-longer c [] L y h = absurd (none-some y h)
-publication-longer c (Published z ∷ B) L y h = longer-by c z y B L (is_copy_of z c) h (publication-longer c B L y)
-publication-longer c (e ∷ B) L y h = publication-longer c B L y h
 
 -- the queue of a copy that a link took belongs to no connection alone
 pub taken-home : (K : List Entry) (l : List ℕ) (s c : ℕ) (x : Publication) (r : Place) (n : List ℕ) → EachCaused [] K → IsIn (Took l s c) K → publication_of c K ≡ Some x → is_home x c r n ≡ true → is_shared K r n ≡ true

@@ -3,7 +3,6 @@ use Rattle.std.proofs.Common.{◌≡◌, ℕ, List, true, Option, Some, None, re
 use Rattle.std.specs.Prelude.{◌&&◌, cond, ◌==◌}
 use Rattle.std.proofs.lemmas.Bool.{and_parts, and_from, eq-eqb, eqb-true}
 use Rattle.std.proofs.lemmas.Option.{same_Some, none-some, cond_some}
-use Rattle.std.proofs.lemmas.Slice.Eq.{bytes_eq-Decides}
 use Rattle.fed_journal.specs.declared.entry.Publisher.{Publisher}
 use Rattle.fed_journal.specs.declared.entry.Publisher.TheVariants.{Client, Link}
 use Rattle.fed_journal.specs.declared.entry.Publication.{Publication}
@@ -12,12 +11,7 @@ use Rattle.fed_journal.specs.declared.entry.Entry.TheVariants.{Published, Took, 
 use Rattle.fed_journal.specs.Names.{same_text}
 use Rattle.fed_journal.specs.Copies.{find_publication}
 use Rattle.fed_journal.specs.Flight.{of_session, taken_by, sent_by, copy_published_by, number_if, published_by, confirmed_to, noted_by, settled_for, copy_of_publication, copy_from, confirmed_copy, is_number}
-
-pub same_text-true : (a b : List ℕ) → same_text a b ≡ true → a ≡ b
-same_text-true a b h = (bytes_eq-Decides a b).0 h
-
-pub same_text-refl : (a : List ℕ) → same_text a a ≡ true
-same_text-refl a = (bytes_eq-Decides a a).1 refl
+use Rattle.broker_view.proofs.Names.{same_text-true, same_text-refl}
 
 -- the link, the session and the number are those asked for
 pub record Same (l : List ℕ) (s : ℕ) (k : List ℕ) (t : ℕ) (n m : ℕ) : Type 0 where

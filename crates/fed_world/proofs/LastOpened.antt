@@ -8,8 +8,8 @@ use Rattle.fed_journal.specs.declared.entry.Entry.{Entry}
 use Rattle.fed_journal.specs.declared.entry.Entry.TheVariants.{Opened}
 use Rattle.fed_journal.specs.Names.{same_text}
 use Rattle.fed_journal.specs.Phases.{phase, phase_step, session, session_step, is_open}
+use Rattle.broker_view.proofs.Names.{same_text-true}
 use Rattle.fed_world.specs.Kept.{StandsAfter}
-use Rattle.fed_world.proofs.Inversions.{same_text-true}
 
 -- the link was opened in that session
 abbrev pub WasOpened : List Entry → List ℕ → ℕ → Type 0

@@ -5,7 +5,7 @@ use Rattle.std.proofs.lemmas.Bool.{true≢false, false≢true, ltb-true, ltb-fal
 use Rattle.fed_journal.specs.declared.place.Place.{Place}
 use Rattle.fed_journal.specs.Names.{same_text}
 use Rattle.fed_journal.specs.Words.{is_plain, hex_digit, percent_octet, word, place_word, shovel_link_name}
-use Rattle.fed_world.proofs.Inversions.{same_text-true, same_text-refl}
+use Rattle.broker_view.proofs.Names.{same_text-true, same_text-refl}
 
 -- what may follow a word in a link's name: nothing, or `/`
 abbrev Stops : List ℕ → Type 0

@@ -2,31 +2,15 @@
 use Rattle.std.proofs.Common.{◌≡◌, ℕ, List, [], ◌∷◌, ◌++◌, Bool, true, false, Option, Some, None, refl, sym, ap, subst, ◌∙◌, append_assoc, append-nil}
 use Rattle.std.specs.Prelude.{cond, ◌&&◌}
 use Rattle.std.proofs.lemmas.Bool.{true≢false, false≢true, and_parts, and_from}
-use Rattle.std.proofs.lemmas.List.Sums.{fold-append}
 use Rattle.amqp_props.specs.declared.link.QueueOptions.{QueueOptions}
 use Rattle.fed_journal.specs.declared.place.Place.{Place}
 use Rattle.fed_journal.specs.declared.entry.Entry.{Entry}
 use Rattle.fed_journal.specs.declared.entry.Entry.TheVariants.{MadeQueue, GoneQueue}
 use Rattle.fed_journal.specs.Configuration.{is_queue, options_step, queue_options}
 use Rattle.fed_journal.specs.Names.{same_text, same_place}
+use Rattle.broker_view.proofs.Names.{same_text-true, same_text-refl, same_place-true, same_place-refl}
+use Rattle.broker_view.proofs.Configured.{options-push}
 use Rattle.fed_world.proofs.Causes.{is_shared, is_shared_in, Caused, EachCaused}
-use Rattle.fed_world.proofs.Inversions.{same_text-true, same_text-refl}
-
-place_of : List ℕ → List ℕ → Place
-place_of broker vhost = record { broker = broker; vhost = vhost }
-
-place-eta : (a : Place) → place_of a.broker a.vhost ≡ a
-unfolding place_of
-place-eta a = refl
-
-pub same_place-true : (a b : Place) → same_place a b ≡ true → a ≡ b
-same_place-true a b h =
-    let parts : (same_text a.broker b.broker ≡ true) × (same_text a.vhost b.vhost ≡ true) = and_parts (same_text a.broker b.broker) (same_text a.vhost b.vhost) h in
-    sym (place-eta a) ∙ ap (λ x. place_of x a.vhost) (same_text-true a.broker b.broker parts.0) ∙ ap (place_of b.broker) (same_text-true a.vhost b.vhost parts.1) ∙ place-eta b
-
-pub options-push : (K : List Entry) (e : Entry) (p : Place) (q : List ℕ) → queue_options (K ++ e ∷ []) p q ≡ options_step p q (queue_options K p q) e
-unfolding queue_options
-options-push K e p q = fold-append (options_step p q) None K (e ∷ [])
 
 -- the queue is that one
 asked : (p : Place) (q : List ℕ) (place : Place) (queue : List ℕ) → is_queue p q place queue ≡ true → (place ≡ p) × (queue ≡ q)
@@ -63,9 +47,6 @@ shared-each K (e ∷ es) p q caused h =
     subst (λ J. is_shared J p q ≡ true) (append_assoc K (e ∷ []) es) (shared-each (K ++ e ∷ []) es p q caused.1 (shared-push K e p q caused.0 h))
 
 -- ---- which queue is meant
-
-pub same_place-refl : (p : Place) → same_place p p ≡ true
-same_place-refl p = and_from (same_text p.broker p.broker) (same_text p.vhost p.vhost) (same_text-refl p.broker) (same_text-refl p.vhost)
 
 pub is_queue-refl : (p : Place) (q : List ℕ) → is_queue p q p q ≡ true
 is_queue-refl p q = and_from (same_place p p) (same_text q q) (same_place-refl p) (same_text-refl q)

@@ -2,7 +2,7 @@
 use Rattle.std.proofs.Common.{◌≡◌, ℕ, ◌+◌, List, [], ◌∷◌, ◌++◌, Bool, true, false, Option, Some, None, refl, sym, ap, subst, inl, inr}
 use Rattle.std.specs.Prelude.{Ok, Err, not, cond, ◌&&◌, ◌||◌, is_some, map, find, filter, filter_map}
 use Rattle.std.specs.List.{list_any}
-use Rattle.std.proofs.lemmas.Bool.{true≢false, false≢true, not_from_false}
+use Rattle.std.proofs.lemmas.Bool.{true≢false, false≢true, not_from_false, not-true}
 use Rattle.std.proofs.lemmas.Option.{none-some, same_Some}
 use Rattle.fed_journal.specs.declared.place.Place.{Place}
 use Rattle.fed_journal.specs.declared.event.Event.{Event}
@@ -22,6 +22,8 @@ use Rattle.fed_journal.specs.Holds.{is_ready, is_held_by, first_ready, ready_cou
 use Rattle.fed_journal.specs.Consumers.{Consumer, consumer}
 use Rattle.fed_journal.specs.Links.{link_of, links_of, is_named, is_shovel_set}
 use Rattle.fed_journal.specs.Phases.{phase, session, is_open}
+use Rattle.broker_view.proofs.Names.{same_text-true}
+use Rattle.broker_view.proofs.Configured.{options-push}
 use Rattle.fed_world.specs.declared.reason.Reason.TheVariants as why
 use Rattle.fed_world.specs.Row.{oldest, lock_refusal, queue_refusal, channel_of}
 use Rattle.fed_world.specs.Answer.{answer_refusal, ack_row, reject_row, requeue_row}
@@ -51,7 +53,7 @@ use Rattle.fed_world.specs.Settle.{settle_row}
 use Rattle.fed_world.specs.Step.{next}
 use Rattle.fed_world.specs.Kept.{StandsAfter, IsPublishedFor}
 use Rattle.fed_world.proofs.Causes.{is_shared, is_shared_in, Caused, EachCaused, WasConfirmed, WasNoted}
-use Rattle.fed_world.proofs.Inversions.{same_text-true, taken_by-is, sent_by-is, noted_by-is, confirmed_copy-is, Confirms, publishes-is, Publishes}
+use Rattle.fed_world.proofs.Inversions.{taken_by-is, sent_by-is, noted_by-is, confirmed_copy-is, Confirms, publishes-is, Publishes}
 use Rattle.fed_world.proofs.Lists.{IsIn, Split, first-in, find-in, filter-in, filter_map-in, any-middle}
 use Rattle.fed_world.proofs.Described.{link_of-made}
 use Rattle.fed_world.proofs.LastOpened.{last-opened}
@@ -61,7 +63,7 @@ use Rattle.std.proofs.lemmas.Bool.{and_parts}
 use Rattle.fed_journal.specs.Configuration.{is_place}
 use Rattle.fed_world.proofs.RowHas.{unless_refused-has, unless_known_refused-has, if_not-has, at_known_place-has, while_known_open-has, RowHas, either-has, at_place-has, with_link-has, while_open-has, one_or_empty-has}
 use Rattle.fed_world.proofs.Homes.{entered_by-enters}
-use Rattle.fed_world.proofs.Queues.{options-push, shared-push, is_queue-refl, is_queue-other}
+use Rattle.fed_world.proofs.Queues.{shared-push, is_queue-refl, is_queue-other}
 
 -- the place of an entry that is known to be another
 stands-as : (J : List Entry) (P : Entry → Type 0) (e : Entry) (s : Split P J) → s.at ≡ e → StandsAfter s.before e J
@@ -99,10 +101,6 @@ note-cause J l s c h =
       by = confirms.by;
     }
 
-not-has : (b : Bool) → not b ≡ true → b ≡ false
-not-has true h = sym h
-not-has false h = refl
-
 settle-cause : (J : List Entry) (l : List ℕ) (s c : ℕ) (spec : LinkSpec) → link_of J l ≡ Some spec → oldest (flight_noted J l s) ≡ Some c → WasNoted J l s c
 unfolding flight_noted
 settle-cause J l s c spec d h =
@@ -113,7 +111,7 @@ settle-cause J l s c spec d h =
       spec = spec;
       described = d;
       noted = stands-as J (λ e. noted_by l s e ≡ Some c) (Noted l s c) at (noted_by-is l s c at.at at.holds);
-      still = not-has (has (settled_for l s) c J) found.0;
+      still = not-true (has (settled_for l s) c J) found.0;
     }
 
 any-of : (f : Entry → Bool) (J : List Entry) (s : Split (λ e. f e ≡ true) J) → list_any f J ≡ true

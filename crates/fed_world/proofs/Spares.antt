@@ -1,5 +1,5 @@
 -- No event but a removal appends an entry by which a copy is gone.
-use Rattle.std.proofs.Common.{◌≡◌, ℕ, ◌+◌, List, [], ◌∷◌, ◌++◌, Bool, true, false, Option, Some, None, refl, sym, subst, ap, ◌∙◌, append_assoc}
+use Rattle.std.proofs.Common.{◌≡◌, ℕ, ◌+◌, List, [], ◌∷◌, ◌++◌, Bool, true, false, Option, Some, None, sym, subst, ap, ◌∙◌, append_assoc}
 use Rattle.std.specs.Prelude.{Ok, Err, not, cond, ◌==◌, find, map}
 use Rattle.std.proofs.lemmas.Bool.{true≢false}
 use Rattle.fed_journal.specs.declared.place.Place.{Place}
@@ -13,12 +13,12 @@ use Rattle.fed_journal.specs.declared.entry.Publication.{Publication}
 use Rattle.fed_journal.specs.declared.entry.Entry.{Entry}
 use Rattle.fed_journal.specs.declared.entry.Entry.TheVariants.{GoneQueue, Opened, Flushed, ShovelSet}
 use Rattle.fed_journal.specs.Configuration.{is_broker, queues_owned}
-use Rattle.fed_journal.specs.Copies.{Standing, Unknown, Ready, Held, Left, is_left, is_home, closed, standing_step, publication_of, is_secured}
-use Rattle.fed_journal.specs.Holders.{is_connection}
+use Rattle.fed_journal.specs.Copies.{Standing, Ready, Left, is_left, is_home, closed, standing_step, publication_of, is_secured}
 use Rattle.fed_journal.specs.Links.{is_shovel_set}
 use Rattle.fed_journal.specs.Phases.{phase, session, is_open}
 use Rattle.fed_journal.specs.Holds.{ready_count}
 use Rattle.fed_journal.specs.Flight.{flight_took, flight_sent, flight_published, flight_confirmed}
+use Rattle.broker_view.proofs.Awaited.{closed-stays}
 use Rattle.fed_world.specs.declared.reason.Reason.TheVariants as why
 use Rattle.fed_world.specs.Row.{oldest, lock_refusal, queue_refusal}
 use Rattle.fed_world.specs.Answer.{answer_refusal, requeue_row}
@@ -66,12 +66,6 @@ stays t h = ap (λ b. is_left (cond b Left t)) h ∙ h
 readied : (t : Standing) (b : Bool) → is_left t ≡ false → is_left (cond (is_left t) Left (cond b Ready t)) ≡ false
 readied t true h = ap (λ b. is_left (cond b Left Ready)) h
 readied t false h = stays t h
-
-closed-stays : (p : Place) (n : ℕ) (t : Standing) → is_left t ≡ false → is_left (closed p n t) ≡ false
-closed-stays p n (Held holder) h = elim (is_connection p n holder) as (λ b. is_left (cond b Ready (Held holder)) ≡ false) [ true ↦ refl | false ↦ refl ]
-closed-stays p n Unknown h = h
-closed-stays p n Ready h = h
-closed-stays p n Left h = h
 
 -- one that ends a connection
 ended : (p : Place) (n : ℕ) (t : Standing) → is_left t ≡ false → is_left (cond (is_left t) Left (closed p n t)) ≡ false

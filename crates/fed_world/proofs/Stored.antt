@@ -1,5 +1,5 @@
 -- A copy that is alive and stored stays so while nothing removes it.
-use Rattle.std.proofs.Common.{◌≡◌, ℕ, ◌+◌, ◌<◌, List, [], ◌∷◌, ◌++◌, length, zero, suc, Bool, true, false, Option, Some, None, arith, refl, sym, subst, ap, take, drop, ◌∙◌, append_assoc, append-nil}
+use Rattle.std.proofs.Common.{◌≡◌, ℕ, ◌+◌, ◌<◌, List, [], ◌∷◌, ◌++◌, length, Bool, true, false, Option, Some, None, arith, refl, sym, subst, ap, take, drop, ◌∙◌, append_assoc, append-nil}
 use Rattle.std.specs.Prelude.{Ok, Err, not, cond, nat_lt, position, slice_get}
 use Rattle.std.specs.List.{list_any, position_or_len}
 use Rattle.std.proofs.lemmas.Bool.{true≢false, false≢true, and_parts, and_from, or_left, ltb-true, lt-ltb, ne_eqb, not-true, not_from_false}
@@ -11,16 +11,18 @@ use Rattle.fed_journal.specs.declared.entry.Publication.{Publication}
 use Rattle.fed_journal.specs.declared.entry.Entry.{Entry}
 use Rattle.fed_journal.specs.declared.entry.Entry.TheVariants.{GoneQueue}
 use Rattle.fed_journal.specs.Copies.{is_left, is_home, standing, publication_of, enters, flushes, is_gone, is_stored, must_be_stored, must_be_stored_from, must_be_stored_at, is_flushed_from, is_flushed_in, publication_in}
+use Rattle.broker_view.proofs.Publications.{standing-push, position-within}
+use Rattle.broker_view.proofs.Secured.{slice_get-append}
 use Rattle.fed_world.specs.Row.{Row}
 use Rattle.fed_world.specs.Step.{next, after}
 use Rattle.fed_world.specs.Run.{run, moment}
 use Rattle.fed_world.specs.Kept.{is_alive, EachMoment, KeepsStored}
 use Rattle.fed_world.proofs.RowHas.{RowHas}
 use Rattle.fed_world.proofs.Causes.{Caused, EachCaused, caused-append}
-use Rattle.fed_world.proofs.Homes.{position-within, stored-home}
+use Rattle.fed_world.proofs.Homes.{stored-home}
 use Rattle.fed_world.proofs.RowCaused.{next-caused}
 use Rattle.fed_world.proofs.Spares.{Spares, SparesEach, takes_away, next-spares}
-use Rattle.fed_world.proofs.Standings.{published-of, standing-push}
+use Rattle.fed_world.proofs.Standings.{published-of}
 
 position_or_len-append : {X : Type 0} (p : X → Bool) (xs ys : List X) → position_or_len p xs < length xs → position_or_len p (xs ++ ys) ≡ position_or_len p xs
 position_or_len-append p xs ys h =
@@ -36,11 +38,6 @@ position-append p xs ys i h =
     let longer : length (xs ++ ys) ≡ length xs + length ys = length-append xs ys in
     subst (λ n. cond (nat_lt n (length (xs ++ ys))) (Some n) None ≡ Some i) (sym same)
     (ap (λ b. cond b (Some i) None) (lt-ltb i (length (xs ++ ys)) (omega (arith, longer, within, parts.1))))
-
-slice_get-append : {X : Type 0} (xs ys : List X) (i : ℕ) → i < length xs → slice_get (xs ++ ys) i ≡ slice_get xs i
-slice_get-append [] ys i h = absurd (omega (arith, h))
-slice_get-append (x ∷ xs) ys zero h = refl
-slice_get-append (x ∷ xs) ys (suc i) h = slice_get-append xs ys i (omega (arith, h))
 
 pub list_any-longer : {X : Type 0} (p : X → Bool) (xs ys : List X) → list_any p xs ≡ true → list_any p (xs ++ ys) ≡ true
 list_any-longer p xs ys h = list_any-append p xs ys ∙ or_left (list_any p xs) (list_any p ys) h

@@ -17,6 +17,7 @@ use Rattle.fed_journal.specs.Links.{link_of}
 use Rattle.fed_journal.specs.Names.{same_place}
 use Rattle.fed_journal.specs.Phases.{phase, session, is_open}
 use Rattle.broker_view.specs.Confirms.{publications, is_by, ArePublishedAt}
+use Rattle.broker_view.proofs.Names.{same_place-refl}
 use Rattle.fed_world.specs.declared.reason.Reason.TheVariants.{Empty, NotOpen}
 use Rattle.fed_world.specs.Row.{Row, with_spec, while_open}
 use Rattle.fed_world.specs.Confirm.{confirm_row, confirm_first}
@@ -24,7 +25,6 @@ use Rattle.fed_world.specs.Kept.{StandsAfter}
 use Rattle.fed_world.proofs.Causes.{CausedBy, EachCaused, PublishesCopy, caused-at}
 use Rattle.fed_world.proofs.Described.{described-later}
 use Rattle.fed_world.proofs.Inversions.{published_by-is}
-use Rattle.fed_world.proofs.Queues.{same_place-refl}
 
 stands-later : (d e : Entry) (K J : List Entry) → StandsAfter K e J → StandsAfter (d ∷ K) e (d ∷ J)
 stands-later d e K J h = (h.0, ap (λ es. d ∷ es) h.1)

@@ -52,18 +52,30 @@ next J (Note link) = note_row J link
 next J (Settle link) = settle_row J link
 next J Show = Ok []
 
--- the events of a client that consumes
+-- the events that declare or bind (AMQP 0-9-1, queue.declare, exchange.declare, queue.bind, queue.unbind)
+abbrev pub is_declaring : Event → Bool
+is_declaring (DeclareQueue place client queue options) = true
+is_declaring (DeclareExchange place client exchange shape) = true
+is_declaring (Bind place client binding) = true
+is_declaring (Unbind place client binding) = true
+is_declaring _ = false
+
+-- the events by which a client begins or ends to consume, is handed copies, empties a queue or goes (AMQP 0-9-1, basic.consume, basic.cancel, basic.deliver, basic.get, queue.purge, connection.close)
 abbrev pub is_consuming : Event → Bool
 is_consuming (Consume place client queue tag no_ack prefetch) = true
 is_consuming (Cancel place client tag) = true
 is_consuming (Deliver place client tag) = true
 is_consuming (Get place client queue no_ack) = true
-is_consuming (Ack place client copy) = true
-is_consuming (Reject place client copy) = true
-is_consuming (Requeue place client copy) = true
 is_consuming (Purge place client queue) = true
 is_consuming (Close place client) = true
 is_consuming _ = false
+
+-- the events by which a client answers for a copy that it holds (AMQP 0-9-1, basic.ack, basic.reject)
+abbrev pub is_answering : Event → Bool
+is_answering (Ack place client copy) = true
+is_answering (Reject place client copy) = true
+is_answering (Requeue place client copy) = true
+is_answering _ = false
 
 -- the journal afterwards
 abbrev pub after : List Entry → Row → List Entry

@@ -7,7 +7,7 @@ ghost use Rattle.fed_journal.specs.Events.{IsWritable};
 ghost use Rattle.fed_journal.specs.Sizes.{IsSized, entry_bytes, byte_count};
 ghost use Rattle.fed_journal.specs.declared.journal.TheConstants.{MAX_BYTES};
 ghost use Rattle.fed_world.specs.RowOf.{row_of};
-ghost use Rattle.fed_world.specs.Step.{next, is_consuming, after, outcome_of};
+ghost use Rattle.fed_world.specs.Step.{next, is_declaring, is_consuming, is_answering, after, outcome_of};
 ghost use Rattle.fed_world.specs.Limits.{limit_of, limit_passed};
 ghost use Rattle.fed_world.specs.Run.{begin, begun, IsReached};
 ghost use Rattle.fed_world.specs.Sound.{IsSound};
@@ -76,59 +76,9 @@ impl Model for World {
     ghost invariant = { λ w. IsSound w.journal.entries × IsReached w.journal.entries × IsFollowed w.brokers w.journal.entries };
 }
 
-/// The row of an event of a consuming client.
-fn consuming_row(alloc: Global, run: &Run<'_>, event: &Event) -> Result<Row, AllocError>
-    ensures { IsTrue (is_consuming event.now) → IfOk result (λ row. row_of row ≡ next run.now event.now) }
-{
-    match event {
-        Event::Consume {
-            place,
-            client,
-            queue,
-            tag,
-            no_ack,
-            prefetch,
-        } => consume_row(alloc, run, place, *client, queue, tag, *no_ack, *prefetch),
-        Event::Cancel { place, client, tag } => cancel_row(alloc, run, place, *client, tag),
-        Event::Deliver { place, client, tag } => deliver_row(alloc, run, place, *client, tag),
-        Event::Get {
-            place,
-            client,
-            queue,
-            no_ack,
-        } => get_row(alloc, run, place, *client, queue, *no_ack),
-        Event::Ack {
-            place,
-            client,
-            copy,
-        } => ack_row(alloc, run, place, *client, *copy),
-        Event::Reject {
-            place,
-            client,
-            copy,
-        } => reject_row(alloc, run, place, *client, *copy),
-        Event::Requeue {
-            place,
-            client,
-            copy,
-        } => requeue_row(alloc, run, place, *client, *copy),
-        Event::Purge {
-            place,
-            client,
-            queue,
-        } => purge_row(alloc, run, place, *client, queue),
-        Event::Close { place, client } => close_row(alloc, run, place, *client),
-        _ => Ok(nothing(alloc)),
-    }
-}
-
-/// The row of an event: what it appends, or why it doesn't happen now.
-fn next(alloc: Global, run: &Run<'_>, numbers: Numbers, event: &Event) -> Result<Row, AllocError>
-    requires sound { IsSound run.now }
-    requires reached { IsReached run.now }
-    requires publication { numbers.publication ≡ publication_count run.now + 1 }
-    requires copy { numbers.copy ≡ copy_count run.now + 1 }
-    ensures { IfOk result (λ row. row_of row ≡ next run.now event.now) }
+/// The row of an event that declares or binds.
+fn declaring_row(alloc: Global, run: &Run<'_>, event: &Event) -> Result<Row, AllocError>
+    ensures { IsTrue (is_declaring event.now) → IfOk result (λ row. row_of row ≡ next run.now event.now) }
 {
     match event {
         Event::DeclareQueue {
@@ -153,11 +103,86 @@ fn next(alloc: Global, run: &Run<'_>, numbers: Numbers, event: &Event) -> Result
             client,
             binding,
         } => unbind_row(alloc, run, place, *client, binding),
+        _ => Ok(nothing(alloc)),
+    }
+}
+
+/// The row of an event by which a client begins or ends to consume, is handed copies, empties a queue or goes.
+fn consuming_row(alloc: Global, run: &Run<'_>, event: &Event) -> Result<Row, AllocError>
+    ensures { IsTrue (is_consuming event.now) → IfOk result (λ row. row_of row ≡ next run.now event.now) }
+{
+    match event {
+        Event::Consume {
+            place,
+            client,
+            queue,
+            tag,
+            no_ack,
+            prefetch,
+        } => consume_row(alloc, run, place, *client, queue, tag, *no_ack, *prefetch),
+        Event::Cancel { place, client, tag } => cancel_row(alloc, run, place, *client, tag),
+        Event::Deliver { place, client, tag } => deliver_row(alloc, run, place, *client, tag),
+        Event::Get {
+            place,
+            client,
+            queue,
+            no_ack,
+        } => get_row(alloc, run, place, *client, queue, *no_ack),
+        Event::Purge {
+            place,
+            client,
+            queue,
+        } => purge_row(alloc, run, place, *client, queue),
+        Event::Close { place, client } => close_row(alloc, run, place, *client),
+        _ => Ok(nothing(alloc)),
+    }
+}
+
+/// The row of an event by which a client answers for a copy that it holds.
+fn answering_row(alloc: Global, run: &Run<'_>, event: &Event) -> Result<Row, AllocError>
+    ensures { IsTrue (is_answering event.now) → IfOk result (λ row. row_of row ≡ next run.now event.now) }
+{
+    match event {
+        Event::Ack {
+            place,
+            client,
+            copy,
+        } => ack_row(alloc, run, place, *client, *copy),
+        Event::Reject {
+            place,
+            client,
+            copy,
+        } => reject_row(alloc, run, place, *client, *copy),
+        Event::Requeue {
+            place,
+            client,
+            copy,
+        } => requeue_row(alloc, run, place, *client, *copy),
+        _ => Ok(nothing(alloc)),
+    }
+}
+
+/// The row of an event: what it appends, or why it doesn't happen now.
+fn next(alloc: Global, run: &Run<'_>, numbers: Numbers, event: &Event) -> Result<Row, AllocError>
+    requires sound { IsSound run.now }
+    requires reached { IsReached run.now }
+    requires publication { numbers.publication ≡ publication_count run.now + 1 }
+    requires copy { numbers.copy ≡ copy_count run.now + 1 }
+    ensures { IfOk result (λ row. row_of row ≡ next run.now event.now) }
+{
+    match event {
+        Event::DeclareQueue { .. }
+        | Event::DeclareExchange { .. }
+        | Event::Bind { .. }
+        | Event::Unbind { .. } => declaring_row(alloc, run, event),
         Event::Publish {
             place,
             client,
             message,
         } => publish_row(alloc, run, place, *client, message, numbers),
+        Event::Ack { .. } | Event::Reject { .. } | Event::Requeue { .. } => {
+            answering_row(alloc, run, event)
+        }
         Event::Flush { broker } => flush_row(alloc, run, broker),
         Event::SetShovel {
             place,

@@ -1,9 +1,8 @@
 -- What the scanning program's values stand for.
-use Rattle.std.specs.Prelude.{ℕ, Option, Some, None, refl}
+use Rattle.std.specs.Prelude.{ℕ, refl}
 use Rattle.std.specs.Coded.{Coded, code_by, coded×, coded_ℕ}
 use Rattle.route_core.specs.Codes.{coded_routing}
 use Rattle.route_core.specs.Routing.{Routing}
-use Rattle.fed_journal.specs.Consumers as consumers
 use Rattle.fed_journal.specs.Holders as holders
 use Rattle.fed_journal.specs.Copies as copies
 use Rattle.fed_journal.specs.Routes as routes
@@ -11,7 +10,6 @@ use Rattle.journal_scan.specs.declared.standing.Holder.{Holder}
 use Rattle.journal_scan.specs.declared.standing.Holder.TheVariants.{Session, Channel}
 use Rattle.journal_scan.specs.declared.standing.CopyState.{CopyState}
 use Rattle.journal_scan.specs.declared.standing.CopyState.TheVariants.{Unknown, Ready, Held, Left}
-use Rattle.journal_scan.specs.declared.consumers.Subscription.{Subscription}
 
 -- with what its references lead to
 abbrev pub holder_of : Holder → holders.Holder
@@ -23,13 +21,6 @@ standing_of Unknown = copies.Unknown
 standing_of Ready = copies.Ready
 standing_of (Held holder) = copies.Held (holder_of holder)
 standing_of Left = copies.Left
-
-abbrev pub consumer_from : Subscription → consumers.Consumer
-consumer_from c = record { queue = c.queue.now; no_ack = c.no_ack; prefetch = c.prefetch }
-
-abbrev pub consumer_of : Option Subscription → Option consumers.Consumer
-consumer_of None = None
-consumer_of (Some c) = Some (consumer_from c)
 
 -- A code of what stands at a place, by which a proof tells two such apart.
 abbrev pub coded_site : Coded routes.Site

@@ -1,13 +1,15 @@
-//! Brokers, queues and exchanges.
-ghost use Rattle.std.specs.Prelude.{◌≡◌, IfOk};
-ghost use Rattle.fed_journal.specs.Configuration.{is_broker, is_place, is_queue, options_step, queue_options, predeclared_kind, predeclared_shape, exchange_shape};
+//! Brokers and queues.
+ghost use Rattle.std.specs.Prelude.{◌≡◌, not, filter, IfOk, OnOk};
+ghost use Rattle.fed_journal.specs.Names.{same_text};
+ghost use Rattle.fed_journal.specs.Configuration.{is_broker, is_place, is_queue, options_step, queue_options, queues_step, queues_of};
 
-use amqp_props::{ExchangeKind, QueueOptions, Text};
+use amqp_props::{QueueOptions, Text};
 use fed_journal::entry::Entry;
-use fed_journal::place::{ExchangeShape, Place};
+use fed_journal::place::Place;
+use std::alloc::{AllocError, Global};
 
 /// Whether the run has this broker.
-pub fn is_broker(journal: &[Entry], broker: &Text) -> bool
+pub(crate) fn is_broker(journal: &[Entry], broker: &Text) -> bool
     ensures { result ≡ is_broker journal.now broker.now }
 {
     journal.iter().any(
@@ -17,14 +19,14 @@ pub fn is_broker(journal: &[Entry], broker: &Text) -> bool
 
 /// Whether the run has this place.
 #[tactic(auto, unfolding(fed_journal::specs::Configuration::is_place))]
-pub fn is_place(journal: &[Entry], place: &Place) -> bool
+pub(crate) fn is_place(journal: &[Entry], place: &Place) -> bool
     ensures { result ≡ is_place journal.now place.now }
 {
     place.vhost.as_str() == "/" && is_broker(journal, &place.broker)
 }
 
 /// Whether that queue of the place is meant.
-pub(crate) fn is_queue(place: &Place, queue: &Text, at: &Place, name: &Text) -> bool
+fn is_queue(place: &Place, queue: &Text, at: &Place, name: &Text) -> bool
     ensures { result ≡ is_queue place.now queue.now at.now name.now }
 {
     at == place && name == queue
@@ -56,7 +58,7 @@ fn options_after(
 
 /// The options of the queue, if it stands.
 #[tactic(auto, unfolding(fed_journal::specs::Configuration::queue_options))]
-pub fn queue_options(journal: &[Entry], place: &Place, queue: &Text) -> Option<QueueOptions>
+pub(crate) fn queue_options(journal: &[Entry], place: &Place, queue: &Text) -> Option<QueueOptions>
     ensures { result ≡ queue_options journal.now place.now queue.now }
 {
     let mut last = None;
@@ -66,55 +68,43 @@ pub fn queue_options(journal: &[Entry], place: &Place, queue: &Text) -> Option<Q
     last
 }
 
-/// The type of the exchange, if it is one with which a virtual host begins.
-fn predeclared_kind(exchange: &Text) -> Option<ExchangeKind>
-    ensures { result ≡ predeclared_kind exchange.now }
+/// Removes the queue's name.
+fn remove(queues: &mut Vec<Text>, queue: &Text)
+    ensures { queues.new.items ≡ filter (λ name. not (same_text name queue.now)) queues.old.items }
 {
-    let name = exchange.as_str();
-    if name == "amq.direct" {
-        Some(ExchangeKind::Direct)
-    } else if name == "amq.fanout" {
-        Some(ExchangeKind::Fanout)
-    } else if name == "amq.headers" {
-        Some(ExchangeKind::Headers)
-    } else if name == "amq.match" {
-        Some(ExchangeKind::Headers)
-    } else if name == "amq.topic" {
-        Some(ExchangeKind::Topic)
-    } else {
-        None
-    }
+    queues.retain(|name| name != queue);
 }
 
-/// What such an exchange is.
-fn predeclared_shape(exchange: &Text) -> Option<ExchangeShape>
-    ensures { result ≡ predeclared_shape exchange.now }
+/// The queues of the place after one entry more.
+fn enter_queue(queues: &mut Vec<Text>, place: &Place, entry: &Entry) -> Result<(), AllocError>
+    ensures { OnOk result (queues.new.items ≡ queues_step place.now queues.old.items entry.now) }
 {
-    let kind = predeclared_kind(exchange)?;
-    Some(ExchangeShape {
-        kind,
-        durable: true,
-        internal: false,
-    })
-}
-
-/// What the exchange was declared as, if it stands; the default exchange has no declaration.
-#[tactic(auto, unfolding(fed_journal::specs::Configuration::exchange_shape))]
-pub fn exchange_shape(journal: &[Entry], place: &Place, exchange: &Text) -> Option<ExchangeShape>
-    ensures { result ≡ exchange_shape journal.now place.now exchange.now }
-{
-    let mut last = predeclared_shape(exchange);
-    for entry in journal {
-        if let Entry::MadeExchange {
+    match entry {
+        Entry::MadeQueue {
             place: at,
-            exchange: made,
-            shape,
-        } = entry
-            && at == place
-            && made == exchange
-        {
-            last = Some(*shape);
+            queue,
+            ..
+        } if at == place => {
+            let queue = queue.clone()?;
+            queues.push(queue)?;
+            Ok(())
         }
+        Entry::GoneQueue { place: at, queue } if at == place => {
+            remove(queues, queue);
+            Ok(())
+        }
+        _ => Ok(()),
     }
-    last
+}
+
+/// The queues of the place, in the order of their making.
+#[tactic(auto, unfolding(fed_journal::specs::Configuration::queues_of))]
+pub fn queues_of(alloc: Global, journal: &[Entry], place: &Place) -> Result<Vec<Text>, AllocError>
+    ensures { IfOk result (λ queues. queues.items ≡ queues_of journal.now place.now) }
+{
+    let mut queues = Vec::new(alloc);
+    for entry in journal {
+        enter_queue(&mut queues, place, entry)?;
+    }
+    Ok(queues)
 }

@@ -38,7 +38,7 @@ pub fn entered_by(entry: &Entry, place: &Place, queue: &Text) -> Option<u64>
 }
 
 /// Whether the copy is one of the publication's.
-pub fn is_copy_of(publication: &Publication, copy: u64) -> bool
+pub(crate) fn is_copy_of(publication: &Publication, copy: u64) -> bool
     ensures { result ≡ is_copy_of publication.now copy }
 {
     publication.first <= copy
@@ -46,7 +46,7 @@ pub fn is_copy_of(publication: &Publication, copy: u64) -> bool
 }
 
 /// Whether the entry brought the copy into its queue.
-pub fn enters(entry: &Entry, copy: u64) -> bool
+pub(crate) fn enters(entry: &Entry, copy: u64) -> bool
     ensures { result ≡ enters copy entry.now }
 {
     match entry {
@@ -55,22 +55,15 @@ pub fn enters(entry: &Entry, copy: u64) -> bool
     }
 }
 
-/// Whether the copy has left its queue otherwise than by loss.
-pub fn is_released(journal: &[Entry], copy: u64) -> bool
-    ensures { result ≡ is_released journal.now copy }
-{
-    is_left(standing(journal, copy))
-}
-
 /// Whether the copy has left its queue.
 pub fn is_gone(journal: &[Entry], copy: u64) -> bool
     ensures { result ≡ is_gone journal.now copy }
 {
-    is_released(journal, copy)
+    is_left(standing(journal, copy))
 }
 
 /// Whether the options are those of a lasting queue.
-pub fn is_lasting(options: Option<QueueOptions>) -> bool
+pub(crate) fn is_lasting(options: Option<QueueOptions>) -> bool
     ensures { result ≡ is_lasting options }
 {
     match options {
@@ -81,9 +74,8 @@ pub fn is_lasting(options: Option<QueueOptions>) -> bool
 
 /// The publication of that number.
 #[tactic(auto, unfolding(fed_journal::specs::Copies::find_publication))]
-pub fn find_publication(journal: &[Entry], number: u64) -> Option<&Publication>
-    ensures found { option_copied result ≡ find_publication number journal.now }
-    ensures numbered { All IsFitting journal.now → IfSome result (λ x. x.now.first + length x.now.queues < 2 ^ 64) }
+pub(crate) fn find_publication(journal: &[Entry], number: u64) -> Option<&Publication>
+    ensures { option_copied result ≡ find_publication number journal.now }
 {
     for entry in journal {
         if let Entry::Published(publication) = entry
@@ -168,7 +160,7 @@ fn must_be_stored_at(before: &[Entry], publication: &Publication, copy: u64) -> 
 
 /// Whether the copy's message is persistent and its queue is lasting.
 #[tactic(auto, unfolding(fed_journal::specs::Copies::must_be_stored))]
-pub fn must_be_stored(journal: &[Entry], copy: u64) -> bool
+pub(crate) fn must_be_stored(journal: &[Entry], copy: u64) -> bool
     ensures { result ≡ must_be_stored journal.now copy }
 {
     match entered_at(journal, copy) {
@@ -199,38 +191,4 @@ pub fn is_stored(journal: &[Entry], copy: u64) -> bool
     ensures { result ≡ is_stored journal.now copy }
 {
     must_be_stored(journal, copy) && is_flushed_since(journal, copy)
-}
-
-/// Whether the copy is stored or released, where it is one that its broker has to store.
-fn is_copy_secured(journal: &[Entry], copy: u64) -> bool
-    ensures { result ≡ (not (must_be_stored journal.now copy) || is_stored journal.now copy || is_released journal.now copy) }
-{
-    !must_be_stored(journal, copy) || is_stored(journal, copy) || is_released(journal, copy)
-}
-
-/// Whether each copy of a publication is stored or released, where its broker has to store it.
-fn are_copies_secured(journal: &[Entry], first: u64, queues: &[Text]) -> bool
-    requires { first + length queues.now < 2 ^ 64 }
-    ensures { result ≡ list_all (is_copy_secured journal.now) (numbers_from first queues.now) }
-{
-    let mut copy = first;
-    for _queue in queues {
-        if !is_copy_secured(journal, copy) {
-            return false;
-        }
-        copy += 1;
-    }
-    true
-}
-
-/// Whether the publication is secured.
-#[tactic(auto, unfolding(fed_journal::specs::Copies::is_secured))]
-pub fn is_secured(journal: &[Entry], publication: u64) -> bool
-    requires { All IsFitting journal.now }
-    ensures { result ≡ is_secured journal.now publication }
-{
-    match find_publication(journal, publication) {
-        Some(found) => are_copies_secured(journal, found.first, found.queues.as_slice()),
-        None => false,
-    }
 }

@@ -1,14 +1,14 @@
 //! Which copies are handed out, and which are ready.
 ghost use Rattle.std.specs.Prelude.{◌≡◌, All, IfOk, is_some};
 ghost use Rattle.fed_journal.specs.Copies.{IsFitting, entered};
-ghost use Rattle.fed_journal.specs.Holds.{is_held, is_held_by, is_ready, first_ready, ready_count, holder_in};
+ghost use Rattle.fed_journal.specs.Holds.{is_held, is_ready, ready_count, holder_in};
 ghost use Rattle.journal_scan.specs.View.{standing_of};
 
 use crate::copies::entered_by;
 use crate::standing::{CopyState, is_waiting, standing};
 use amqp_props::Text;
 use fed_journal::entry::Entry;
-use fed_journal::place::{Client, Place};
+use fed_journal::place::Place;
 use std::alloc::{AllocError, Global};
 
 /// Whether it is a copy that is handed out and unacknowledged.
@@ -25,33 +25,11 @@ pub fn is_held(journal: &[Entry], copy: u64) -> bool
     has_holder(standing(journal, copy))
 }
 
-/// Whether the client holds the copy.
-pub fn is_held_by(journal: &[Entry], place: &Place, client: Client, copy: u64) -> bool
-    ensures { result ≡ is_held_by journal.now place.now client copy }
-{
-    match standing(journal, copy) {
-        CopyState::Held(holder) => holder.is_client(place, client),
-        _ => false,
-    }
-}
-
 /// Whether the copy is in its queue, and not held.
-pub fn is_ready(journal: &[Entry], copy: u64) -> bool
+pub(crate) fn is_ready(journal: &[Entry], copy: u64) -> bool
     ensures { result ≡ is_ready journal.now copy }
 {
     is_waiting(standing(journal, copy))
-}
-
-/// The copy that the queue would hand out now.
-#[tactic(auto, unfolding(fed_journal::specs::Holds::first_ready, fed_journal::specs::Copies::entered))]
-pub fn first_ready(journal: &[Entry], place: &Place, queue: &Text) -> Option<u64>
-    requires { All IsFitting journal.now }
-    ensures { result ≡ first_ready journal.now place.now queue.now }
-{
-    journal
-        .iter()
-        .filter_map(|entry| entered_by(entry, place, queue))
-        .find(|copy| is_ready(journal, *copy))
 }
 
 /// Every copy that ever entered the queue, by rising number.

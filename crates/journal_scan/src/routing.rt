@@ -1,19 +1,14 @@
-//! Exchanges and bindings of a place, and the queues that a message reaches there.
+//! What stands at a place, and its bindings.
 ghost use Rattle.std.specs.Prelude.{◌≡◌, ◌+◌, ◌<◌, ◌≤◌, ◌^◌, IfOk, OnOk, length};
 ghost use Rattle.fed_journal.specs.declared.journal.TheConstants.{MAX_ENTRIES};
-ghost use Rattle.fed_journal.specs.Routes.{made as made_object, gone as gone_queue, bound as bound_there, unbound as unbound_there, site as site_of_journal, site_step, is_at as is_entry_at, is_bound as is_binding_bound, routes as routes_of_message};
-ghost use Rattle.fed_journal.specs.Messages.{headers_of};
-ghost use Rattle.route_core.specs.Routes.{routed_names};
-ghost use Rattle.route_core.specs.Walks.{publish};
+ghost use Rattle.fed_journal.specs.Routes.{made as made_object, gone as gone_queue, bound as bound_there, unbound as unbound_there, site as site_of_journal, site_step, is_at as is_entry_at};
 ghost use Rattle.route_core.specs.Objects.{sort_of as sort_of_node};
 ghost use Rattle.route_core.specs.Routing.{IsNext, stands as object_stands};
 ghost use Rattle.fed_journal.specs.SiteLaws.{IsNumbering};
 
-use amqp_props::{Message, Text};
+use amqp_props::Text;
 use fed_journal::entry::Entry;
 use fed_journal::place::Place;
-use fed_journal::text::Names;
-use field_tables::Table;
 use route_core::{Binding, Node, Router, Sort};
 use std::alloc::{AllocError, Global};
 use std::marker::Model;
@@ -174,52 +169,4 @@ pub fn place_after(alloc: Global, journal: &[Entry], place: &Place) -> Result<Si
         enter(&mut site, place, entry)?;
     }
     Ok(site)
-}
-
-/// Whether an equal binding stands at the place.
-pub fn is_bound(
-    alloc: Global,
-    journal: &[Entry],
-    place: &Place,
-    binding: &Binding,
-) -> Result<bool, AllocError>
-    requires { length journal.now ≤ MAX_ENTRIES }
-    ensures { IfOk result (λ bound. bound ≡ is_binding_bound journal.now place.now binding.now) }
-{
-    let site = place_after(alloc, journal, place)?;
-    Ok(site.router.has_binding(binding))
-}
-
-/// The names of the queues that the message reaches at the place.
-fn reached(alloc: Global, site: &Site, message: &Message) -> Result<Vec<Text>, AllocError>
-    ensures names { IfOk result (λ names. names.items ≡ routed_names site.now.routing (publish message.now.exchange message.now.key (headers_of message.now))) }
-    ensures few { IfOk result (λ names. length names.items ≤ length site.now.routing.objects) }
-{
-    let exchange = message.exchange.as_str();
-    let key = message.key.as_str();
-    match &message.props.headers {
-        Some(headers) => site.router.names(exchange, key, headers.as_table()),
-        None => {
-            let none = Table {
-                pairs: Vec::new(alloc),
-            };
-            site.router.names(exchange, key, &none)
-        }
-    }
-}
-
-/// The queues that the message reaches from its exchange, in the order of their making.
-#[tactic(auto, unfolding(fed_journal::specs::Routes::routes))]
-pub fn routes(
-    alloc: Global,
-    journal: &[Entry],
-    place: &Place,
-    message: &Message,
-) -> Result<Names, AllocError>
-    requires { length journal.now ≤ MAX_ENTRIES }
-    ensures { IfOk result (λ queues. queues ≡ routes_of_message journal.now place.now message.now) }
-{
-    let site = place_after(alloc, journal, place)?;
-    let names = reached(alloc, &site, message)?;
-    Ok(Names::new(names))
 }

@@ -2,7 +2,7 @@
 ghost use Rattle.std.specs.Prelude.{◌≡◌, ◌-◌, fold};
 ghost use Rattle.std.specs.List.{slice_get};
 ghost use Rattle.std.specs.Option.{option_copied};
-ghost use Rattle.fed_journal.specs.Holders.{is_client, is_connection, is_consumer, same_client};
+ghost use Rattle.fed_journal.specs.Holders.{is_connection};
 ghost use Rattle.fed_journal.specs.Copies.{Ready, is_home, handed, closed, moved, standing_step, standing, is_left, is_waiting};
 ghost use Rattle.journal_scan.specs.View.{holder_of, standing_of};
 
@@ -40,30 +40,9 @@ pub enum CopyState<'a> {
     Left,
 }
 
-/// Whether both are the same channel of the same connection.
-pub(crate) fn is_same_client(one: Client, other: Client) -> bool
-    ensures { result ≡ same_client one other }
-{
-    one.connection == other.connection && one.channel == other.channel
-}
-
 impl<'a> Holder<'a> {
-    /// Whether it is this client at this place.
-    pub fn is_client(self, place: &Place, client: Client) -> bool
-        ensures { result ≡ is_client place.now client (holder_of self.entry) }
-    {
-        match self {
-            Holder::Session { .. } => false,
-            Holder::Channel {
-                place: at,
-                client: by,
-                ..
-            } => at == place && is_same_client(by, client),
-        }
-    }
-
     /// Whether it is a channel of this connection to this place.
-    pub fn is_connection(self, place: &Place, connection: u32) -> bool
+    fn is_connection(self, place: &Place, connection: u32) -> bool
         ensures { result ≡ is_connection place.now connection (holder_of self.entry) }
     {
         match self {
@@ -73,20 +52,6 @@ impl<'a> Holder<'a> {
                 client: by,
                 ..
             } => at == place && by.connection == connection,
-        }
-    }
-
-    /// Whether it is this client's consumer of that tag.
-    pub fn is_consumer(self, place: &Place, client: Client, tag: &Text) -> bool
-        ensures { result ≡ is_consumer place.now client tag.now (holder_of self.entry) }
-    {
-        match self {
-            Holder::Session { .. } => false,
-            Holder::Channel {
-                place: at,
-                client: by,
-                tag: under,
-            } => at == place && is_same_client(by, client) && under == tag,
         }
     }
 }
@@ -221,7 +186,7 @@ fn standing_since<'a>(publication: &Publication, copy: u64, entries: &'a [Entry]
 
 /// What has become of the copy.
 #[tactic(auto, unfolding(fed_journal::specs::Copies::standing))]
-pub fn standing(journal: &[Entry], copy: u64) -> CopyState<'_>
+pub(crate) fn standing(journal: &[Entry], copy: u64) -> CopyState<'_>
     ensures { standing_of result ≡ standing copy journal.now }
 {
     for (at, entry) in journal.iter().enumerate() {

@@ -2,13 +2,14 @@ ghost use Rattle.std.specs.Prelude.{IfOk, All};
 ghost use Rattle.fed_journal.specs.Copies.{IsFitting};
 ghost use Rattle.fed_journal.specs.declared.entry.Entry.TheVariants.{Published};
 
-use crate::configuration::{is_broker, is_place, queue_options};
-use crate::consumers::{ConsumerName, consumer, held_count};
+use crate::configuration::{is_broker, is_place, queue_options, queues_of};
 use crate::copies::{
-    find_publication, is_copy_of, is_gone, is_secured, is_stored, must_be_stored, publication_of,
+    find_publication, is_copy_of, is_gone, is_stored, must_be_stored, publication_of,
 };
-use crate::flight::{flight_confirmed, flight_noted, flight_published, flight_sent, flight_took};
-use crate::holds::{entered, first_ready, is_held, is_held_by, is_ready, ready_count};
+use crate::flight::{
+    flight_confirmed, flight_held, flight_noted, flight_published, flight_sent, flight_took,
+};
+use crate::holds::{entered, is_held, is_ready, ready_count};
 use crate::links::{is_shovel_set, link_of, links_of};
 use crate::phases::{is_open, session};
 use crate::standing::{CopyState, standing};
@@ -95,19 +96,6 @@ fn client() -> Client {
     }
 }
 
-fn consumed(alloc: Global) -> Result<Entry, AllocError>
-    ensures { IfOk result (λ entry. IsFitting entry) }
-{
-    Ok(Entry::Consumed {
-        place: place(alloc)?,
-        client: client(),
-        queue: Text::from_str(alloc, "q")?,
-        tag: Text::from_str(alloc, "q")?,
-        no_ack: false,
-        prefetch: 1,
-    })
-}
-
 fn delivered(alloc: Global) -> Result<Entry, AllocError>
     ensures { IfOk result (λ entry. IsFitting entry) }
 {
@@ -137,12 +125,9 @@ fn with_publication(alloc: Global) -> Result<Vec<Entry>, AllocError>
     Ok(journal)
 }
 
-fn with_consumer(alloc: Global) -> Result<Vec<Entry>, AllocError>
-    ensures { IfOk result (λ journal. All IsFitting journal.items) }
-{
+fn with_delivery(alloc: Global) -> Result<Vec<Entry>, AllocError> {
     let mut journal = Vec::new(alloc);
     journal.push(Entry::Published(publication(alloc)?))?;
-    journal.push(consumed(alloc)?)?;
     journal.push(delivered(alloc)?)?;
     Ok(journal)
 }
@@ -155,19 +140,11 @@ fn with_link(alloc: Global) -> Result<Vec<Entry>, AllocError> {
 }
 
 #[test]
-fn a_consumer_holds_a_copy(rt: HostRuntime) -> Result<(), Fail> {
+fn a_client_holds_a_copy(rt: HostRuntime) -> Result<(), Fail> {
     let alloc = rt.alloc();
-    let (at, queue) = (place(alloc)?, Text::from_str(alloc, "q")?);
-    let journal = with_consumer(alloc)?;
-    let name = ConsumerName {
-        place: &at,
-        client: client(),
-        tag: &queue,
-    };
-    assert!(rt; is_held_by(&journal, &at, client(), 1));
+    let journal = with_delivery(alloc)?;
     assert!(rt; matches!(standing(&journal, 1), CopyState::Held(_)));
-    assert!(rt; consumer(&journal, name).is_some());
-    assert_eq!(rt; held_count(alloc, &journal, name, &queue)?, 1);
+    assert!(rt; is_held(&journal, 1));
     Ok(())
 }
 
@@ -179,6 +156,7 @@ fn brokers_and_queues(rt: HostRuntime) -> Result<(), Fail> {
     assert!(rt; is_broker(&journal, &at.broker));
     assert!(rt; is_place(&journal, &at));
     assert!(rt; queue_options(&journal, &at, &queue).is_some());
+    assert_eq!(rt; queues_of(alloc, &journal, &at)?.len(), 1);
     assert!(rt; !is_shovel_set(&journal, &at, &queue));
     assert_eq!(rt; links_of(alloc, &journal)?.len(), 0);
     assert!(rt; link_of(alloc, &journal, &queue)?.is_none());
@@ -195,6 +173,7 @@ fn a_link_takes_a_copy(rt: HostRuntime) -> Result<(), Fail> {
     assert!(rt; is_held(&journal, 1));
     assert!(rt; !is_ready(&journal, 1));
     assert!(rt; !is_gone(&journal, 1));
+    assert_eq!(rt; flight_held(alloc, &journal, &link, 1)?.len(), 1);
     assert_eq!(rt; flight_took(alloc, &journal, &link, 1)?.len(), 1);
     assert_eq!(rt; flight_sent(alloc, &journal, &link, 1)?.len(), 0);
     assert_eq!(rt; flight_published(alloc, &journal, &link, 1)?.len(), 0);
@@ -209,10 +188,8 @@ fn a_copy_is_ready_and_not_stored(rt: HostRuntime) -> Result<(), Fail> {
     let journal = with_publication(alloc)?;
     assert_eq!(rt; entered(alloc, &journal, &at, &queue)?.len(), 1);
     assert_eq!(rt; ready_count(alloc, &journal, &at, &queue)?, 1);
-    assert_eq!(rt; first_ready(&journal, &at, &queue), Some(1));
     assert!(rt; must_be_stored(&journal, 1));
     assert!(rt; !is_stored(&journal, 1));
-    assert!(rt; !is_secured(&journal, 1));
     assert!(rt; publication_of(&journal, 1).is_some());
     assert!(rt; find_publication(&journal, 1).is_some());
     assert_eq!(rt; flight_confirmed(alloc, &journal, &queue, 1)?.len(), 0);

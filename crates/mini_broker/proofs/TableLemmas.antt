@@ -1,7 +1,7 @@
 -- What is done to the table of queues, as contracts see it with the messages of the copies.
-use Rattle.std.proofs.Common.{◌≡◌, ℕ, zero, suc, ◌+◌, ◌<◌, ◌≤◌, ◌==◌, Bool, true, false, cond, List, [], ◌∷◌, ◌++◌, Option, Some, None, Bor, String, string_bytes, position, slice_get, is_some, refl, ap, sym, ◌∙◌, subst, arith, map, eq-eqb, unwrap_or}
+use Rattle.std.proofs.Common.{◌≡◌, ℕ, zero, suc, ◌+◌, ◌<◌, ◌≤◌, ◌==◌, true, false, cond, List, [], ◌∷◌, ◌++◌, Option, Some, None, Bor, position, slice_get, is_some, refl, ap, sym, ◌∙◌, subst, arith, eq-eqb, unwrap_or}
 use Rattle.std.specs.Option.{option_map, option_and_then, option_copied}
-use Rattle.std.specs.Prelude.{Result, Ok, Err, IfOk, find, count_by}
+use Rattle.std.specs.Prelude.{Result, Ok, Err, IfOk, find}
 use Rattle.std.specs.Map.{lookup, keys_of, values_of}
 use Rattle.std.proofs.lemmas.Bool.{false≢true}
 use Rattle.indexmap.specs.IndexMap.{set_value_at}
@@ -11,7 +11,7 @@ use Rattle.slab.specs.Slab.{Slab}
 use Rattle.mini_broker.specs.declared.mailbox.CopyMessage.{CopyMessage}
 use Rattle.mini_broker.specs.declared.messages.Kept.{Kept}
 use Rattle.mini_broker.specs.Mail.{Mail, empty, copy_of, is_copy, first_copy}
-use Rattle.mini_broker.specs.Messages.{message_at, copies_at, uses, all_uses, IsCounted, Follows, Remains, copy_with, mail_with, queue_with, queues_with}
+use Rattle.mini_broker.specs.Messages.{message_at, copies_at, uses, all_uses, IsCounted, Follows, copy_with, mail_with, queue_with, queues_with}
 use Rattle.mini_broker.specs.Queues.{Standing, Named, named, queue_of, changed, with_mail, first_in, ready_in}
 use Rattle.mini_broker.proofs.QueueLemmas.{Entries, is_key, changed_at, set_same, lookup_named}
 use Rattle.mini_broker.proofs.KeyLemmas.{queues_changed, queue_of_with, first_in_with, ready_in_with}

@@ -1,4 +1,4 @@
-use Rattle.std.proofs.Common.{◌≡◌, ◌+◌, ◌<◌, ◌^◌, ℕ, length, take, arith, sym, subst}
+use Rattle.std.proofs.Common.{◌+◌, ◌<◌, ◌^◌, take, arith, sym, subst}
 use Rattle.fed_journal.specs.Routes as routes
 use Rattle.fed_journal.specs.SiteLaws.{IsNumbering, site-numbering, site-few}
 use Rattle.std.proofs.lemmas.List.{length-take-le}

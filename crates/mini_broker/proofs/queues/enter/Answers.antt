@@ -1,4 +1,4 @@
-use Rattle.std.proofs.Common.{sym, ap, ◌∙◌, is_some, cond}
+use Rattle.std.proofs.Common.{sym, ap, is_some, cond}
 use Rattle.mini_broker.specs.Mail.{entered}
 use Rattle.mini_broker.specs.Queues.{named, with_mail, IsLast}
 use Rattle.mini_broker.proofs.QueueLemmas.{changed_absent, changed_at, set_same, all_at, always_err}

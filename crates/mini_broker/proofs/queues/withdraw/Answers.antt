@@ -1,4 +1,4 @@
-use Rattle.std.proofs.Common.{sym, ap, refl}
+use Rattle.std.proofs.Common.{sym, ap}
 use Rattle.mini_broker.specs.Mail.{left}
 use Rattle.mini_broker.specs.Queues.{named, with_mail}
 use Rattle.mini_broker.proofs.QueueLemmas.{changed_absent, changed_at}

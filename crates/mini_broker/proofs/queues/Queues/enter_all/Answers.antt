@@ -4,7 +4,7 @@ use Rattle.mini_broker.specs.Publish.{all_entered}
 use Rattle.mini_broker.specs.Queues.{named, AreAbove}
 use Rattle.mini_broker.proofs.QueueLemmas.{always_err}
 use Rattle.mini_broker.proofs.KeyLemmas.{above_with}
-use Rattle.mini_broker.proofs.CountLemmas.{added_counted, added_seen}
+use Rattle.mini_broker.proofs.CountLemmas.{added_seen}
 use Rattle.mini_broker.proofs.queues.Queues.enter_all.Goals as goal
 
 pub enter_each-requires-clause-above : goal.enter_each-requires-clause-above

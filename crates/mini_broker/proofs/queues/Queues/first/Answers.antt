@@ -1,4 +1,4 @@
-use Rattle.std.proofs.Common.{◌≡◌, ℕ, Option, Some, Bor, sym, ap, ◌∙◌}
+use Rattle.std.proofs.Common.{ℕ, Option, Some, Bor, sym, ap, ◌∙◌}
 use Rattle.std.specs.Option.{option_map, option_and_then, option_copied}
 use Rattle.amqp_props.specs.declared.message.Message.{Message}
 use Rattle.queue_core.specs.Rows.{first_ready}

@@ -1,4 +1,4 @@
-use Rattle.std.proofs.Common.{ℕ, sym, ap, ◌∙◌, count_by, subst}
+use Rattle.std.proofs.Common.{ℕ, sym, ap, ◌∙◌, count_by}
 use Rattle.std.specs.Option.{option_map_or}
 use Rattle.queue_core.specs.Rows.{is_ready}
 use Rattle.mini_broker.specs.Mail.{purged}

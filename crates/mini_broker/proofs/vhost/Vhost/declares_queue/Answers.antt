@@ -1,4 +1,4 @@
-use Rattle.std.proofs.Common.{◌≡◌, ℕ, Some, None, Err, cond, sym, ap, ◌∙◌}
+use Rattle.std.proofs.Common.{ℕ, Some, None, Err, cond, sym, ap, ◌∙◌}
 use Rattle.std.specs.Option.{option_map, option_copied}
 use Rattle.mini_broker.specs.declared.fault.ClientFault.TheVariants.{Refused}
 use Rattle.mini_broker.specs.Declare.{declare_answer, declared_again}

@@ -1,6 +1,6 @@
 use Rattle.std.proofs.Common.{◌≡◌, take}
 use Rattle.fed_journal.specs.Configuration.{queues_of}
-use Rattle.journal_scan.proofs.owners.queues_of.Given as goal
+use Rattle.journal_scan.proofs.configuration.queues_of.Given as goal
 
 -- the queues after the entries so far
 abbrev pub invariant-loop-entry : goal.invariant-loop-entry
