@@ -13,6 +13,7 @@ mod text;
 mod writing;
 
 pub use fault::PropsFault;
+pub use field_tables::Text;
 pub use laws::headers_are_one;
 pub use length::header_len;
 pub use link::{
@@ -23,7 +24,7 @@ pub use message::Message;
 pub use properties::Properties;
 pub use reading::read_header;
 pub use row::{PROPERTIES, PropertyKind, Row, property};
-pub use text::{FieldTable, Octets, Text};
+pub use text::{FieldTable, Octets};
 pub use writing::write_header;
 
 #[cfg(test)]

@@ -4,7 +4,8 @@ ghost use Rattle.std.specs.Cmp.{partial_equiv_from_equiv};
 ghost use Rattle.amqp_props.specs.SameLinks.{same_link, link_laws};
 
 use crate::properties::Properties;
-use crate::text::{Text, copy_text};
+use crate::text::copy_text;
+use field_tables::Text;
 use std::alloc::AllocError;
 
 /// A broker and a virtual host of it.

@@ -4,7 +4,8 @@ ghost use Rattle.std.specs.Cmp.{partial_equiv_from_equiv};
 ghost use Rattle.amqp_props.specs.Same.{same_message, message_laws};
 
 use crate::properties::Properties;
-use crate::text::{Octets, Text};
+use crate::text::Octets;
+use field_tables::Text;
 use std::alloc::AllocError;
 
 /// A message (AMQP 0-9-1, basic.publish and the content that follows it).

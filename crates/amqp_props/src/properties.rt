@@ -3,7 +3,8 @@ ghost use Rattle.std.specs.Prelude.{◌≡◌, ◌↔◌, IsTrue};
 ghost use Rattle.std.specs.Cmp.{partial_equiv_from_equiv};
 ghost use Rattle.amqp_props.specs.Same.{same_number, same_properties, properties_laws};
 
-use crate::text::{FieldTable, Text, copy_table, copy_text, same_table, same_text};
+use crate::text::{FieldTable, copy_table, copy_text, same_table, same_text};
+use field_tables::Text;
 use std::alloc::AllocError;
 
 /// The properties of a message, each of which may be absent (AMQP 0-9-1, class basic).

@@ -11,7 +11,8 @@ ghost use Rattle.amqp_props.specs.HeaderReading.{Gives, found_at, text_at, prope
 use crate::fault::PropsFault;
 use crate::properties::Properties;
 use crate::row::with_properties;
-use crate::text::{FieldTable, Text};
+use crate::text::FieldTable;
+use field_tables::Text;
 use field_tables::{TableFault, read_table};
 use std::alloc::Global;
 

@@ -6,7 +6,8 @@ ghost use Rattle.amqp_props.specs.ContentHeader.{property_rows, short_string, fi
 
 use crate::properties::Properties;
 use crate::row::with_properties;
-use crate::text::{FieldTable, Text};
+use crate::text::FieldTable;
+use field_tables::Text;
 use field_tables::write_table;
 use std::alloc::AllocError;
 

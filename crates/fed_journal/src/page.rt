@@ -41,11 +41,16 @@ impl Page {
     }
 
     /// The page as a text.
-    pub fn into_text(self) -> Text
-        ensures { result ≡ self }
+    ///
+    /// # Errors
+    ///
+    /// For want of memory.
+    pub fn into_text(self) -> Result<Text, AllocError>
+        ensures { IfOk result (λ text. text ≡ self) }
     {
         let Page { text } = self;
-        Text::new(text)
+        let alloc = *text.allocator();
+        Text::new(alloc, text)
     }
 
     /// Appends a text as it is.
@@ -178,5 +183,5 @@ pub fn shovel_link_name(alloc: Global, owner: &Place, name: &Text) -> Result<Tex
     page.push_place(owner)?;
     page.push("/")?;
     page.push_word(name.as_str())?;
-    Ok(page.into_text())
+    page.into_text()
 }

@@ -77,7 +77,7 @@ pub(crate) fn link_name(alloc: Global, word: &[u8]) -> Result<Text, AllocError>
     let parts = parts_of(alloc, word)?;
     let mut page = Page::new(alloc);
     push_parts(alloc, &mut page, parts.as_slice())?;
-    Ok(page.into_text())
+    page.into_text()
 }
 
 fn is_long_part(alloc: Global, part: &[u8]) -> Result<bool, AllocError>

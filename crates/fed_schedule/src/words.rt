@@ -106,7 +106,7 @@ pub(crate) fn string_of(alloc: Global, word: &[u8]) -> Result<String, AllocError
 pub(crate) fn text_of(alloc: Global, word: &[u8]) -> Result<Text, AllocError>
     ensures { IfOk result (λ text. text ≡ text_of word.now) }
 {
-    Ok(Text::new(string_of(alloc, word)?))
+    Text::new(alloc, string_of(alloc, word)?)
 }
 
 #[tactic(auto, using(crate::proofs::Utf8::is_utf8_no, crate::proofs::Utf8::is_utf8_yes))]

@@ -8,6 +8,7 @@ mod laws;
 mod length;
 mod reading;
 mod same;
+mod text;
 mod value;
 mod writing;
 
@@ -15,6 +16,7 @@ pub use fault::TableFault;
 pub use laws::{tables_are_apart, values_are_apart};
 pub use length::table_len;
 pub use reading::read_table;
+pub use text::Text;
 pub use value::{FieldValue, Table};
 pub use writing::write_table;
 

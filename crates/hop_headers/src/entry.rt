@@ -1,6 +1,6 @@
 //! Entries of hop headers.
 
-use crate::text::Text;
+use field_tables::Text;
 
 /// A place as headers name it: a cluster and a virtual host of it.
 #[derive(Clone, PartialEq, Drop)]

@@ -10,7 +10,6 @@ mod pairs;
 mod propagation;
 mod room;
 mod stamps;
-mod text;
 mod values;
 
 pub use entry::{HopEntry, HopObject, PlaceName};
@@ -19,7 +18,7 @@ pub use hops::received_from;
 pub use laws::{gates_decide, propagation_goes_on, results_have_spellings, stamps_name_the_place};
 pub use propagation::propagate;
 pub use stamps::{stamp_exchange, stamp_queue};
-pub use text::Text;
+pub use field_tables::Text;
 
 #[cfg(test)]
 mod tests;

@@ -1,6 +1,6 @@
 //! The router of a virtual host.
 
-ghost use Rattle.std.specs.Prelude.{◌≡◌, ◌↔◌, ◌-◌, ◌+◌, ◌<◌, ◌≤◌, [], true, false, not, IfOk, OnOk, OnErr, length, max, slice_get, string_bytes};
+ghost use Rattle.std.specs.Prelude.{◌≡◌, ◌↔◌, ◌-◌, ◌+◌, ◌<◌, ◌≤◌, [], true, false, not, IfOk, OnOk, OnErr, length, max, slice_get};
 ghost use Rattle.std.specs.Option.{option_map};
 ghost use Rattle.field_tables.specs.View.{table_view};
 ghost use Rattle.route_core.specs.declared.object.Sort.TheVariants as sorts;
@@ -190,15 +190,14 @@ impl Router {
     }
 
     /// Makes a queue or an exchange. Takes no memory.
-    pub fn put(&mut self, name: String, node: Node)
+    pub fn put(&mut self, name: Text, node: Node)
         requires spare { 0 < self.old.spare_objects }
-        requires free { stands (sort_of node) (string_bytes name) self.old.routing ≡ false }
+        requires free { stands (sort_of node) name self.old.routing ≡ false }
         requires next { IsNext node self.old.routing }
-        ensures made { self.new.routing ≡ with_object (string_bytes name) node self.old.routing }
+        ensures made { self.new.routing ≡ with_object name node self.old.routing }
         ensures objects { self.new.spare_objects + 1 ≡ self.old.spare_objects }
         ensures bindings { self.new.spare_bindings ≡ self.old.spare_bindings }
     {
-        let name = Text::new(name);
         match self.objects.push(Object { name, node }) {
             Ok(()) => {}
             Err(_) => unreachable!(),
@@ -209,26 +208,26 @@ impl Router {
     /// Binds a queue or an exchange to an exchange; false exactly where an equal binding stands. Takes no memory.
     pub fn tie(
         &mut self,
-        source: String,
+        source: Text,
         sort: Sort,
-        dest: String,
-        key: String,
+        dest: Text,
+        key: Text,
         args: Table,
     ) -> bool
         requires spare { 0 < self.old.spare_bindings }
-        requires source { has_object sorts.Exchange (string_bytes source) self.old.routing.objects ≡ true }
-        requires dest { has_object sort (string_bytes dest) self.old.routing.objects ≡ true }
-        ensures new { result ≡ not (has_same (binding_of (string_bytes source) sort (string_bytes dest) (string_bytes key) (table_view args)) self.old.routing.bindings) }
-        ensures bound { result ≡ true → self.new.routing ≡ with_binding (binding_of (string_bytes source) sort (string_bytes dest) (string_bytes key) (table_view args)) self.old.routing }
+        requires source { has_object sorts.Exchange source self.old.routing.objects ≡ true }
+        requires dest { has_object sort dest self.old.routing.objects ≡ true }
+        ensures new { result ≡ not (has_same (binding_of source sort dest key (table_view args)) self.old.routing.bindings) }
+        ensures bound { result ≡ true → self.new.routing ≡ with_binding (binding_of source sort dest key (table_view args)) self.old.routing }
         ensures same { result ≡ false → self.new ≡ self.old }
         ensures objects { self.new.spare_objects ≡ self.old.spare_objects }
         ensures bindings { result ≡ true → self.new.spare_bindings + 1 ≡ self.old.spare_bindings }
     {
         let binding = Binding {
-            source: Text::new(source),
+            source,
             sort,
-            dest: Text::new(dest),
-            key: Text::new(key),
+            dest,
+            key,
             args: FieldTable::new(args),
         };
         if has_binding(&self.bindings, binding.as_asked()) {
