@@ -18,7 +18,7 @@ use crate::names::{is_refused_exchange, is_refused_queue};
 use crate::queues::Queues;
 use crate::standing::StandingQueue;
 use crate::vhost::Vhost;
-use amqp_props::{ExchangeKind, QueueOptions};
+use amqp_props::{ExchangeKind, QueueOptions, Text};
 use fed_journal::place::{Client, ExchangeShape};
 use route_core::{Node, Router};
 use std::alloc::{AllocError, Global};
@@ -98,7 +98,7 @@ fn stand_queue(
 {
     let number = queue.number;
     let key = String::from_str(alloc, name)?;
-    let object = String::from_str(alloc, name)?;
+    let object = Text::from_str(alloc, name)?;
     router.reserve(1, 0)?;
     queues.add(key, queue)?;
     router.put(object, Node::Queue(number));
@@ -126,7 +126,7 @@ fn stand_exchange(
     ensures same_exchanges { OnErr result (exchanges.new ≡ exchanges.old) }
 {
     let key = String::from_str(alloc, name)?;
-    let object = String::from_str(alloc, name)?;
+    let object = Text::from_str(alloc, name)?;
     router.reserve(1, 0)?;
     exchanges.add(key, shape)?;
     router.put(object, Node::Exchange(shape.kind));

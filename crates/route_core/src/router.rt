@@ -75,7 +75,7 @@ impl Router {
         ensures bindings { self.new.spare_bindings ≡ self.old.spare_bindings }
         ensures err { OnErr result (self.new ≡ self.old) }
     {
-        let name = String::from_str(*self.objects.allocator(), name)?;
+        let name = Text::from_str(*self.objects.allocator(), name)?;
         self.reserve(1, 0)?;
         self.put(name, node);
         Ok(())
