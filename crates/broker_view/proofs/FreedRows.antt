@@ -7,7 +7,7 @@ use Rattle.queue_core.specs.declared.rows.Hold.{Hold}
 use Rattle.queue_core.specs.declared.rows.Hold.TheVariants as holds
 use Rattle.queue_core.specs.declared.rows.Row.{Row}
 use Rattle.queue_core.specs.Rows.{is_of_client, freed_of, released_client}
-use Rattle.fed_journal.specs.declared.place.Client.{Client}
+use Rattle.client_rules.specs.declared.client.Client.{Client}
 use Rattle.amqp_props.specs.declared.message.Message.{Message}
 use Rattle.mini_broker.specs.Consumers.{is_client}
 use Rattle.mini_broker.specs.Mail.{released_from}

@@ -9,7 +9,7 @@ use Rattle.std.proofs.lemmas.Bool.{true≢false, or_parts, or_from}
 use Rattle.std.proofs.lemmas.Map.Made.{lookup-map_values, is_some-lookup}
 use Rattle.amqp_props.specs.declared.link.QueueOptions.{QueueOptions}
 use Rattle.amqp_props.specs.declared.message.Message.{Message}
-use Rattle.fed_journal.specs.declared.place.Client.{Client}
+use Rattle.client_rules.specs.declared.client.Client.{Client}
 use Rattle.fed_journal.specs.Names.{same_text}
 use Rattle.mini_broker.specs.Mail.{Mail, entered, released_from}
 use Rattle.mini_broker.specs.Queues.{Standing, Named, queue_of, changed, all_changed, with_mail}

@@ -2,7 +2,7 @@
 use Rattle.std.specs.Prelude.{ℕ, List, [], ◌∷◌, ◌++◌, Bool, false, ◌&&◌, fold, if◌then◌else◌, Option, Some, None, count_by, ◌==◌}
 use Rattle.std.specs.List.{list_any}
 use Rattle.fed_journal.specs.declared.place.Place.{Place}
-use Rattle.fed_journal.specs.declared.place.Client.{Client}
+use Rattle.client_rules.specs.declared.client.Client.{Client}
 use Rattle.fed_journal.specs.declared.entry.Entry.{Entry}
 use Rattle.fed_journal.specs.declared.entry.Entry.TheVariants.{GoneQueue, Consumed, Cancelled, Delivered, Closed}
 use Rattle.fed_journal.specs.Names.{same_text, same_place}

@@ -1,7 +1,7 @@
 -- To whom a queue hands its copies.
 use Rattle.std.specs.Prelude.{ℕ, List, Bool, false, ◌&&◌, ◌==◌}
 use Rattle.fed_journal.specs.declared.place.Place.{Place}
-use Rattle.fed_journal.specs.declared.place.Client.{Client}
+use Rattle.client_rules.specs.declared.client.Client.{Client}
 use Rattle.fed_journal.specs.Names.{same_text, same_place}
 
 -- a session of a link, or a channel of a client under the tag of its consumer (AMQP 0-9-1, basic.deliver); the tag is empty where the client asked for a copy (basic.get-ok)

@@ -1,7 +1,7 @@
 -- Which copies are handed out, and to whom.
 use Rattle.std.specs.Prelude.{ℕ, List, Bool, false, Option, Some, None, is_some, count_by, find}
 use Rattle.fed_journal.specs.declared.place.Place.{Place}
-use Rattle.fed_journal.specs.declared.place.Client.{Client}
+use Rattle.client_rules.specs.declared.client.Client.{Client}
 use Rattle.fed_journal.specs.declared.entry.Entry.{Entry}
 use Rattle.fed_journal.specs.Holders.{Holder, is_client}
 use Rattle.fed_journal.specs.Copies.{Standing, Held, standing, is_waiting, entered}

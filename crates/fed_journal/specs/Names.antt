@@ -11,7 +11,3 @@ same_text a b = pointwise nat_eq a b
 -- the same broker, and the same virtual host of it
 abbrev pub same_place : Place → Place → Bool
 same_place a b = same_text a.broker b.broker && same_text a.vhost b.vhost
-
--- names that begin so belong to links (RabbitMQ, Federated Exchanges: the upstream queue's name)
-abbrev pub is_reserved : List ℕ → Bool
-is_reserved name = starts_with nat_eq name (codes "federation: ")

@@ -1,7 +1,6 @@
 //! Names, which contracts see as the lists of their octets.
 ghost use Rattle.std.specs.Prelude.{◌≡◌, ◌<◌, ◌^◌, List, ℕ, length, nat_eq, codes};
 ghost use Rattle.std.specs.List.{starts_with};
-ghost use Rattle.fed_journal.specs.Names.{is_reserved};
 
 use amqp_props::Text;
 use std::marker::Model;
@@ -52,11 +51,4 @@ pub fn begins_with(name: &Text, prefix: &[u8]) -> bool
     ensures { result ≡ starts_with nat_eq name.now prefix.now }
 {
     name.as_str().as_bytes().starts_with(prefix)
-}
-
-/// Whether a name is one that belongs to links.
-pub fn is_reserved(name: &Text) -> bool
-    ensures { result ≡ is_reserved name.now }
-{
-    begins_with(name, b"federation: ")
 }

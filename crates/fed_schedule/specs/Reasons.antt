@@ -3,7 +3,8 @@ use Rattle.std.specs.Prelude.{ℕ, List, [], Bool, false, ◌&&◌, ◌||◌, no
 use Rattle.std.specs.List.{list_any}
 use Rattle.field_tables.specs.Tables.{table_spelling}
 use Rattle.amqp_props.specs.ContentHeader.{header_spelling}
-use Rattle.fed_journal.specs.Names.{same_text, is_reserved}
+use Rattle.fed_journal.specs.Names.{same_text}
+use Rattle.client_rules.specs.Names.{is_reserved}
 use Rattle.fed_schedule.specs.declared.keyword.Keyword.{Keyword}
 use Rattle.fed_schedule.specs.declared.keyword.Keyword.TheVariants.{Broker, Declare, Binding, Publish, Flush, Shovel, Client, Link, Show}
 use Rattle.fed_schedule.specs.declared.keyword.ClientAction.{ClientAction}

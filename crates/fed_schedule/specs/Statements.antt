@@ -11,7 +11,7 @@ use Rattle.route_core.specs.declared.object.Sort.TheVariants as sorts
 use Rattle.route_core.specs.declared.binding.Binding.{Binding}
 use Rattle.route_core.specs.Bindings.{binding_of}
 use Rattle.fed_journal.specs.declared.place.Place.{Place}
-use Rattle.fed_journal.specs.declared.place.ExchangeShape.{ExchangeShape}
+use Rattle.client_rules.specs.declared.client.ExchangeShape.{ExchangeShape}
 use Rattle.fed_journal.specs.declared.link.AckMode.TheVariants.{OnConfirm}
 use Rattle.fed_schedule.specs.declared.keyword.Keyword.{Keyword}
 use Rattle.fed_schedule.specs.declared.keyword.Keyword.TheVariants as form

@@ -25,7 +25,7 @@ use crate::values::{
 };
 use crate::words::{is_word, octets_of, text_of, word_at, words_from};
 use amqp_props::{Octets, Text, header_len};
-use fed_journal::text::is_reserved;
+use client_rules::is_reserved;
 use field_tables::table_len;
 use std::alloc::{AllocError, Global};
 
@@ -299,7 +299,7 @@ fn is_bad_queue(alloc: Global, word: &[u8]) -> Result<bool, AllocError>
     ensures { IfOk result (λ bad. bad ≡ is_bad_queue word.now) }
 {
     let queue = text_of(alloc, word)?;
-    Ok(queue.as_str().is_empty() || is_reserved(&queue))
+    Ok(queue.as_str().is_empty() || is_reserved(queue.as_str()))
 }
 
 #[tactic(auto, unfolding(crate::specs::Reasons::is_bad_body))]

@@ -37,7 +37,7 @@ use Rattle.fed_world.specs.Publish.{publish_row, publish_refusal}
 use Rattle.amqp_props.specs.declared.link.QueueOptions.{QueueOptions}
 use Rattle.amqp_props.specs.declared.message.Message.{Message}
 use Rattle.route_core.specs.declared.binding.Binding.{Binding}
-use Rattle.fed_journal.specs.declared.place.ExchangeShape.{ExchangeShape}
+use Rattle.client_rules.specs.declared.client.ExchangeShape.{ExchangeShape}
 use Rattle.fed_journal.specs.Configuration.{queue_options, exchange_shape}
 use Rattle.fed_journal.specs.Routes.{is_bound}
 use Rattle.fed_world.specs.Bind.{bind_refusal, bind_row, unbind_row}

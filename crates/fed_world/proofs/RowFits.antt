@@ -36,7 +36,7 @@ use Rattle.fed_world.specs.Declare.{declare_row, declared_queue, same_options, d
 use Rattle.fed_world.specs.Publish.{publish_row, publish_refusal, published, first_copy}
 use Rattle.amqp_props.specs.declared.link.QueueOptions.{QueueOptions}
 use Rattle.route_core.specs.declared.binding.Binding.{Binding}
-use Rattle.fed_journal.specs.declared.place.ExchangeShape.{ExchangeShape}
+use Rattle.client_rules.specs.declared.client.ExchangeShape.{ExchangeShape}
 use Rattle.fed_journal.specs.Configuration.{queue_options, exchange_shape, queues_owned}
 use Rattle.fed_journal.specs.Routes.{is_bound, routes}
 use Rattle.fed_world.specs.Bind.{bind_refusal, bind_row, unbind_row}

@@ -8,7 +8,7 @@ use Rattle.amqp_props.specs.declared.link.QueueOptions.{QueueOptions}
 use Rattle.amqp_props.specs.declared.message.Message.{Message}
 use Rattle.route_core.specs.declared.binding.Binding.{Binding}
 use Rattle.fed_journal.specs.declared.place.Place.{Place}
-use Rattle.fed_journal.specs.declared.place.ExchangeShape.{ExchangeShape}
+use Rattle.client_rules.specs.declared.client.ExchangeShape.{ExchangeShape}
 use Rattle.fed_journal.specs.declared.event.Event.{Event}
 use Rattle.fed_journal.specs.declared.event.Event.TheVariants.{DeclareQueue, DeclareExchange, Bind, Unbind, Publish, Consume, Cancel, Deliver, Get, Ack, Reject, Requeue, Purge, Close, Flush, SetShovel, Open, Take, Send, Accept, Confirm, Note, Settle, Show}
 use Rattle.fed_journal.specs.declared.event.Shovel.{Shovel}
@@ -21,7 +21,8 @@ use Rattle.fed_journal.specs.declared.entry.Publication.{Publication}
 use Rattle.fed_journal.specs.declared.entry.Entry.{Entry}
 use Rattle.fed_journal.specs.declared.entry.Entry.TheVariants.{MadeQueue, Published, Flushed, ShovelSet, Took, Opened}
 use Rattle.fed_journal.specs.Configuration.{is_broker, queue_options, exchange_shape}
-use Rattle.fed_journal.specs.Names.{same_text, is_reserved}
+use Rattle.fed_journal.specs.Names.{same_text}
+use Rattle.client_rules.specs.Names.{is_reserved}
 use Rattle.fed_journal.specs.Routes.{is_bound, routes}
 use Rattle.fed_journal.specs.Copies.{standing, is_secured, publication_of}
 use Rattle.fed_journal.specs.Flight.{flight_took, flight_sent, flight_published, flight_confirmed, flight_noted}

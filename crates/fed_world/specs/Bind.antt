@@ -7,7 +7,8 @@ use Rattle.fed_journal.specs.declared.place.Place.{Place}
 use Rattle.fed_journal.specs.declared.entry.Entry.{Entry}
 use Rattle.fed_journal.specs.declared.entry.Entry.TheVariants.{Bound, Unbound}
 use Rattle.fed_journal.specs.Configuration.{queue_options, exchange_shape}
-use Rattle.fed_journal.specs.Names.{same_text, is_reserved}
+use Rattle.fed_journal.specs.Names.{same_text}
+use Rattle.client_rules.specs.Names.{is_reserved}
 use Rattle.fed_journal.specs.Routes.{is_bound}
 use Rattle.fed_world.specs.declared.reason.Reason.{Reason}
 use Rattle.fed_world.specs.declared.reason.Reason.TheVariants.{Refused}

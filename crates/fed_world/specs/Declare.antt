@@ -5,11 +5,12 @@ use Rattle.fed_journal.specs.declared.place.Place.{Place}
 use Rattle.amqp_props.specs.declared.link.QueueOptions.{QueueOptions}
 use Rattle.fed_journal.specs.declared.entry.Entry.{Entry}
 use Rattle.fed_journal.specs.declared.entry.Entry.TheVariants.{MadeQueue, MadeExchange}
-use Rattle.fed_journal.specs.declared.place.ExchangeShape.{ExchangeShape}
+use Rattle.client_rules.specs.declared.client.ExchangeShape.{ExchangeShape}
 use Rattle.amqp_props.specs.declared.link.ExchangeKind.{ExchangeKind}
 use Rattle.amqp_props.specs.declared.link.ExchangeKind.TheVariants.{Direct, Fanout, Headers, Topic}
 use Rattle.fed_journal.specs.Configuration.{queue_options, exchange_shape}
-use Rattle.fed_journal.specs.Names.{same_text, is_reserved}
+use Rattle.fed_journal.specs.Names.{same_text}
+use Rattle.client_rules.specs.Names.{is_reserved}
 use Rattle.fed_world.specs.declared.reason.Reason.TheVariants.{Refused}
 use Rattle.fed_world.specs.Row.{Row, at_place, lock_refusal, unless_refused}
 

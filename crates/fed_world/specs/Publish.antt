@@ -2,7 +2,7 @@
 use Rattle.std.specs.Prelude.{ℕ, ◌+◌, List, [], ◌∷◌, if◌then◌else◌, Option, Some, None, Ok}
 use Rattle.amqp_props.specs.declared.message.Message.{Message}
 use Rattle.fed_journal.specs.declared.place.Place.{Place}
-use Rattle.fed_journal.specs.declared.place.ExchangeShape.{ExchangeShape}
+use Rattle.client_rules.specs.declared.client.ExchangeShape.{ExchangeShape}
 use Rattle.fed_journal.specs.declared.entry.Publisher.{Publisher}
 use Rattle.fed_journal.specs.declared.entry.Publisher.TheVariants.{Client}
 use Rattle.fed_journal.specs.declared.entry.Publication.{Publication}
@@ -10,7 +10,8 @@ use Rattle.fed_journal.specs.declared.entry.Entry.{Entry}
 use Rattle.fed_journal.specs.declared.entry.Entry.TheVariants.{Published}
 use Rattle.fed_journal.specs.Configuration.{exchange_shape}
 use Rattle.fed_journal.specs.Copies.{publication_count, copy_count}
-use Rattle.fed_journal.specs.Names.{same_text, is_reserved}
+use Rattle.fed_journal.specs.Names.{same_text}
+use Rattle.client_rules.specs.Names.{is_reserved}
 use Rattle.fed_journal.specs.Routes.{routes}
 use Rattle.fed_world.specs.declared.reason.Reason.{Reason}
 use Rattle.fed_world.specs.declared.reason.Reason.TheVariants.{Refused}

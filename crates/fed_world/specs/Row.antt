@@ -1,11 +1,11 @@
 -- What an event appends to the journal, or why it doesn't happen now.
 use Rattle.std.specs.Prelude.{ℕ, List, [], ◌∷◌, if◌then◌else◌, Option, Some, None, is_some, Result, Ok, Err, slice_get}
 use Rattle.fed_journal.specs.declared.place.Place.{Place}
-use Rattle.fed_journal.specs.declared.place.Client.{Client}
+use Rattle.client_rules.specs.declared.client.Client.{Client}
 use Rattle.fed_journal.specs.declared.link.LinkSpec.{LinkSpec}
 use Rattle.fed_journal.specs.declared.entry.Entry.{Entry}
 use Rattle.fed_journal.specs.Configuration.{is_place, queue_options, is_locked}
-use Rattle.fed_journal.specs.Names.{is_reserved}
+use Rattle.client_rules.specs.Names.{is_reserved}
 use Rattle.fed_journal.specs.Links.{link_of}
 use Rattle.fed_journal.specs.Phases.{phase, is_open}
 use Rattle.fed_world.specs.declared.reason.Reason.{Reason}

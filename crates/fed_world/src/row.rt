@@ -9,10 +9,10 @@ ghost use Rattle.fed_world.specs.Row.{channel_of, lock_refusal, queue_refusal};
 use crate::reason::Reason;
 use amqp_props::Text;
 use broker_view::run::Run;
+use client_rules::is_reserved;
 use fed_journal::entry::Entry;
 use fed_journal::link::LinkSpec;
 use fed_journal::place::{Client, Place};
-use fed_journal::text::is_reserved;
 use journal_scan::links;
 use std::alloc::{AllocError, Global};
 
@@ -72,7 +72,7 @@ pub(crate) fn queue_refusal(
     requires { is_place run.now place.now ≡ true }
     ensures { result ≡ queue_refusal run.now place.now client queue.now }
 {
-    if is_reserved(queue) {
+    if is_reserved(queue.as_str()) {
         Some(Reason::Refused(403))
     } else if run.queue_options(place, queue).is_some() {
         lock_refusal(run, place, client, queue)

@@ -13,7 +13,7 @@ use Rattle.route_core.specs.declared.object.Sort.TheVariants as sorts
 use Rattle.route_core.specs.declared.object.Object.{Object}
 use Rattle.route_core.specs.Objects.{has, is_named, same_sort, sort_of, number_of, rises}
 use Rattle.route_core.specs.Routing.{Routing, without_object}
-use Rattle.fed_journal.specs.declared.place.Client.{Client}
+use Rattle.client_rules.specs.declared.client.Client.{Client}
 use Rattle.mini_broker.specs.Mail.{released_from}
 use Rattle.amqp_props.specs.declared.message.Message.{Message}
 use Rattle.mini_broker.specs.Queues.{Named, named, queue_of, all_changed, with_mail}

@@ -5,16 +5,18 @@ use Rattle.std.specs.Option.{option_map}
 use Rattle.std.proofs.lemmas.Bool.{true≢false, false≢true}
 use Rattle.amqp_props.specs.declared.link.QueueOptions.{QueueOptions}
 use Rattle.queue_core.specs.declared.rows.Row.{Row}
-use Rattle.fed_journal.specs.declared.place.Client.{Client}
+use Rattle.client_rules.specs.declared.client.Client.{Client}
 use Rattle.mini_broker.specs.declared.fault.ClientFault.{ClientFault}
 use Rattle.mini_broker.specs.declared.fault.ClientFault.TheVariants.{Refused}
 use Rattle.mini_broker.specs.declared.standing.StandingQueue.{StandingQueue}
-use Rattle.mini_broker.specs.Declare.{declared_again, is_other, same_options}
-use Rattle.mini_broker.specs.Names.{is_refused_queue}
+use Rattle.mini_broker.specs.Declare.{declared_again}
+use Rattle.client_rules.specs.Owners.{is_anothers}
+use Rattle.client_rules.specs.Alike.{same_options}
+use Rattle.client_rules.specs.Names.{is_refused_queue}
 use Rattle.mini_broker.specs.Queues.{Standing, bare_queue}
 
 abbrev again : Client → QueueOptions → StandingQueue (List Row) → Result Bool ClientFault
-again who options queue = cond (is_other who queue.owner) (Err (Refused 405)) (cond (same_options queue.options options) (Ok false) (Err (Refused 406)))
+again who options queue = cond (is_anothers who queue.owner) (Err (Refused 405)) (cond (same_options queue.options options) (Ok false) (Err (Refused 406)))
 
 same_again : {A B : Type 0} (who : Client) (options : QueueOptions) (found : Option (Standing A)) (there : Option (Standing B)) → option_map bare_queue found ≡ option_map bare_queue there → declared_again who options found ≡ declared_again who options there
 same_again who options None None e = refl

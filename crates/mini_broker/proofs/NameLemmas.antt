@@ -15,7 +15,7 @@ use Rattle.route_core.specs.Objects.{has, is_named, number_of, rises}
 use Rattle.route_core.specs.Routing.{Routing, predeclared, object_named, with_object, stands}
 use Rattle.amqp_props.specs.declared.link.ExchangeKind.{ExchangeKind}
 use Rattle.amqp_props.specs.declared.link.ExchangeKind.TheVariants.{Direct, Fanout, Headers, Topic}
-use Rattle.fed_journal.specs.declared.place.ExchangeShape.{ExchangeShape}
+use Rattle.client_rules.specs.declared.client.ExchangeShape.{ExchangeShape}
 use Rattle.fed_journal.specs.Configuration.{predeclared_shape}
 use Rattle.amqp_props.specs.declared.message.Message.{Message}
 use Rattle.mini_broker.specs.Queues.{Standing, Named, queue_of, changed, all_changed}

@@ -6,10 +6,10 @@ use Rattle.route_core.specs.declared.object.Sort.TheVariants as sorts
 use Rattle.route_core.specs.declared.binding.Binding.{Binding}
 use Rattle.route_core.specs.Bindings.{has_binding}
 use Rattle.route_core.specs.Routing.{Routing}
-use Rattle.fed_journal.specs.declared.place.Client.{Client}
+use Rattle.client_rules.specs.declared.client.Client.{Client}
 use Rattle.mini_broker.specs.declared.fault.ClientFault.{ClientFault}
 use Rattle.mini_broker.specs.declared.fault.ClientFault.TheVariants.{Refused}
-use Rattle.mini_broker.specs.Names.{is_unbindable}
+use Rattle.client_rules.specs.Names.{is_unbindable}
 use Rattle.mini_broker.specs.Declare.{is_locked}
 use Rattle.mini_broker.specs.Queues.{queue_of}
 use Rattle.mini_broker.specs.Exchanges.{shape_of}

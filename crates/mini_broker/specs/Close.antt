@@ -4,7 +4,7 @@ use Rattle.std.specs.Option.{option_map_or}
 use Rattle.std.specs.Str.{bytes_eq}
 use Rattle.route_core.specs.declared.object.Sort.TheVariants as sorts
 use Rattle.route_core.specs.Routing.{without_object}
-use Rattle.fed_journal.specs.declared.place.Client.{Client}
+use Rattle.client_rules.specs.declared.client.Client.{Client}
 use Rattle.mini_broker.specs.declared.consumer.Consumer.{Consumer}
 use Rattle.mini_broker.specs.Mail.{released_from}
 use Rattle.mini_broker.specs.Queues.{Named, queue_of, all_changed, with_mail}

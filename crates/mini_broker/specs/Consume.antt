@@ -2,8 +2,8 @@
 use Rattle.std.specs.Prelude.{ℕ, ◌+◌, List, ◌++◌, ◌∷◌, [], Bool, false, not, if◌then◌else◌, Option, Some, None, is_some, unwrap_or, length, position, find, filter}
 use Rattle.std.specs.List.{list_any}
 use Rattle.queue_core.specs.declared.rows.Holder.{Holder}
-use Rattle.route_core.specs.Walks.{is_reserved}
-use Rattle.fed_journal.specs.declared.place.Client.{Client}
+use Rattle.client_rules.specs.Names.{is_reserved}
+use Rattle.client_rules.specs.declared.client.Client.{Client}
 use Rattle.mini_broker.specs.declared.consumer.Consumer.{Consumer}
 use Rattle.mini_broker.specs.declared.fault.ClientFault.{ClientFault}
 use Rattle.mini_broker.specs.declared.fault.ClientFault.TheVariants.{Refused}

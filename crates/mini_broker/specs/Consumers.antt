@@ -1,7 +1,7 @@
 -- Who consumes, and who holds (AMQP 0-9-1, basic.consume).
 use Rattle.std.specs.Prelude.{ℕ, ◌==◌, ◌&&◌, Bool, List}
 use Rattle.std.specs.Str.{bytes_eq}
-use Rattle.fed_journal.specs.declared.place.Client.{Client}
+use Rattle.client_rules.specs.declared.client.Client.{Client}
 use Rattle.mini_broker.specs.declared.consumer.Consumer.{Consumer}
 
 -- the same channel of the same connection (AMQP 0-9-1, 2.1.1)

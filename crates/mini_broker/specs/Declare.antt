@@ -1,35 +1,23 @@
 -- A client declares a queue or an exchange (AMQP 0-9-1, queue.declare, exchange.declare).
-use Rattle.std.specs.Prelude.{ℕ, ◌+◌, ◌==◌, List, [], ◌∷◌, ◌++◌, Bool, true, false, ◌&&◌, not, if◌then◌else◌, Option, Some, None, is_some, Result, Ok, Err}
+use Rattle.std.specs.Prelude.{ℕ, ◌+◌, List, [], ◌∷◌, ◌++◌, Bool, true, false, if◌then◌else◌, Option, Some, None, is_some, Result, Ok, Err}
 use Rattle.amqp_props.specs.declared.link.QueueOptions.{QueueOptions}
-use Rattle.amqp_props.specs.declared.link.ExchangeKind.{ExchangeKind}
-use Rattle.amqp_props.specs.declared.link.ExchangeKind.TheVariants.{Direct, Fanout, Headers, Topic}
 use Rattle.route_core.specs.declared.object.Node.TheVariants as nodes
 use Rattle.route_core.specs.Routing.{with_object}
-use Rattle.fed_journal.specs.declared.place.Client.{Client}
-use Rattle.fed_journal.specs.declared.place.ExchangeShape.{ExchangeShape}
+use Rattle.client_rules.specs.declared.client.Client.{Client}
+use Rattle.client_rules.specs.declared.client.ExchangeShape.{ExchangeShape}
 use Rattle.mini_broker.specs.declared.fault.ClientFault.{ClientFault}
 use Rattle.mini_broker.specs.declared.fault.ClientFault.TheVariants.{Refused}
 use Rattle.mini_broker.specs.Mail.{empty}
-use Rattle.mini_broker.specs.Names.{is_refused_queue, is_refused_exchange}
+use Rattle.client_rules.specs.Alike.{same_options, same_shape}
+use Rattle.client_rules.specs.Owners.{owner_of, is_anothers}
+use Rattle.client_rules.specs.Names.{is_refused_exchange, is_refused_queue}
 use Rattle.mini_broker.specs.Queues.{Standing, queue_of}
 use Rattle.mini_broker.specs.Exchanges.{shape_of}
 use Rattle.mini_broker.specs.State.{VhostState}
 
 -- another connection has the queue to itself (AMQP 0-9-1, queue.declare: exclusive)
-abbrev pub is_other : Client → Option ℕ → Bool
-is_other who None = false
-is_other who (Some connection) = not (connection == who.connection)
-
 abbrev pub is_locked : {M : Type 0} → Client → Standing M → Bool
-is_locked who queue = is_other who queue.owner
-
--- both flags are set, or neither
-abbrev pub same_flag : Bool → Bool → Bool
-same_flag true b = b
-same_flag false b = not b
-
-abbrev pub same_options : QueueOptions → QueueOptions → Bool
-same_options a b = same_flag a.durable b.durable && same_flag a.exclusive b.exclusive && same_flag a.auto_delete b.auto_delete
+is_locked who queue = is_anothers who queue.owner
 
 -- RESOURCE_LOCKED (405) for another's queue, PRECONDITION_FAILED (406) where it stands with other options (RabbitMQ, Queues: Property Equivalence)
 abbrev pub declared_again : {M : Type 0} → Client → QueueOptions → Option (Standing M) → Result Bool ClientFault
@@ -42,10 +30,6 @@ unfoldable pub declare_answer : Client → List ℕ → QueueOptions → VhostSt
 declare_answer who name options v =
     if is_refused_queue name (is_some (queue_of name v.queues)) then Err (Refused 403) else declared_again who options (queue_of name v.queues)
 
--- the connection that has the queue to itself (AMQP 0-9-1, queue.declare: exclusive)
-abbrev pub owner_of : Client → QueueOptions → Option ℕ
-owner_of who options = if options.exclusive then Some who.connection else None
-
 abbrev pub made_queue : {M : Type 0} → ℕ → QueueOptions → Option ℕ → Standing M
 made_queue number options owner = record { number = number; options = options; owner = owner; mail = empty }
 
@@ -56,16 +40,6 @@ with_queue name options owner v = record v {
   queues = v.queues ++ (name, made_queue v.made options owner) ∷ [];
   made = v.made + 1;
 }
-
-abbrev pub same_kind : ExchangeKind → ExchangeKind → Bool
-same_kind Direct Direct = true
-same_kind Fanout Fanout = true
-same_kind Headers Headers = true
-same_kind Topic Topic = true
-same_kind _ _ = false
-
-abbrev pub same_shape : ExchangeShape → ExchangeShape → Bool
-same_shape a b = same_kind a.kind b.kind && same_flag a.durable b.durable && same_flag a.internal b.internal
 
 -- PRECONDITION_FAILED (406) where it stands as another type or with other options (RabbitMQ, Exchanges)
 abbrev pub declared_exchange_again : ExchangeShape → Option ExchangeShape → Result Bool ClientFault

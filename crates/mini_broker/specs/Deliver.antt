@@ -4,7 +4,7 @@ use Rattle.std.specs.Option.{option_map, option_map_or}
 use Rattle.amqp_props.specs.declared.message.Message.{Message}
 use Rattle.queue_core.specs.declared.rows.Holder.{Holder}
 use Rattle.queue_core.specs.Rows.{is_held_by}
-use Rattle.fed_journal.specs.declared.place.Client.{Client}
+use Rattle.client_rules.specs.declared.client.Client.{Client}
 use Rattle.mini_broker.specs.declared.consumer.Consumer.{Consumer}
 use Rattle.mini_broker.specs.declared.deliver.Delivered.{Delivered}
 use Rattle.mini_broker.specs.declared.fault.ClientFault.{ClientFault}

@@ -3,7 +3,7 @@ use Rattle.std.specs.Prelude.{ℕ, List, Option}
 use Rattle.std.specs.Option.{option_or}
 use Rattle.std.specs.Map.{lookup}
 use Rattle.std.specs.Str.{bytes_eq}
-use Rattle.fed_journal.specs.declared.place.ExchangeShape.{ExchangeShape}
+use Rattle.client_rules.specs.declared.client.ExchangeShape.{ExchangeShape}
 use Rattle.fed_journal.specs.Configuration.{predeclared_shape}
 
 abbrev pub NamedShape : Type 0

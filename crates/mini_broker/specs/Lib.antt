@@ -5,7 +5,6 @@ pub mod Exchanges
 pub mod Inside
 pub mod Mail
 pub mod Messages
-pub mod Names
 pub mod Queues
 pub mod State
 pub mod Vhosts

@@ -3,7 +3,7 @@ use Rattle.std.specs.Prelude.{ℕ, List, Bool}
 use Rattle.std.specs.Option.{option_map_or}
 use Rattle.amqp_props.specs.declared.message.Message.{Message}
 use Rattle.queue_core.specs.declared.rows.Holder.{Holder}
-use Rattle.fed_journal.specs.declared.place.Client.{Client}
+use Rattle.client_rules.specs.declared.client.Client.{Client}
 use Rattle.mini_broker.specs.Mail.{handed, left, released}
 use Rattle.mini_broker.specs.Queues.{all_changed, with_mail}
 use Rattle.mini_broker.specs.Consume.{consumer_of, registered, holder_for}

@@ -1,6 +1,6 @@
 -- A client answers for a copy that it holds (AMQP 0-9-1, basic.ack, basic.reject), and empties a queue (queue.purge).
 use Rattle.std.specs.Prelude.{ℕ, List, Bool, false, Option, Some, None, Result, Ok, position}
-use Rattle.fed_journal.specs.declared.place.Client.{Client}
+use Rattle.client_rules.specs.declared.client.Client.{Client}
 use Rattle.mini_broker.specs.declared.fault.ClientFault.{ClientFault}
 use Rattle.mini_broker.specs.declared.mailbox.Sweep.{Sweep}
 use Rattle.mini_broker.specs.declared.mailbox.Sweep.TheVariants.{Leave, Release}

@@ -5,7 +5,7 @@ use Rattle.route_core.specs.declared.object.Node.TheVariants as nodes
 use Rattle.route_core.specs.Objects.{has}
 use Rattle.route_core.specs.Routing.{Routing, IsNext}
 use Rattle.amqp_props.specs.declared.message.Message.{Message}
-use Rattle.fed_journal.specs.declared.place.Client.{Client}
+use Rattle.client_rules.specs.declared.client.Client.{Client}
 use Rattle.mini_broker.specs.declared.consumer.Consumer.{Consumer}
 use Rattle.mini_broker.specs.Queues.{Named, queue_of}
 use Rattle.mini_broker.specs.Exchanges.{NamedShape, shape_of}

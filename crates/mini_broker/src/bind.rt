@@ -11,9 +11,8 @@ ghost use Rattle.mini_broker.specs.Bind.{stands_as as stands_as_end, is_locked_e
 
 use crate::declare::is_locked;
 use crate::fault::ClientFault;
-use crate::names::is_unbindable;
 use crate::vhost::Vhost;
-use fed_journal::place::Client;
+use client_rules::{Client, is_unbindable};
 use field_tables::Table;
 use route_core::{Router, Sort};
 use std::alloc::AllocError;

@@ -5,7 +5,7 @@ ghost use Rattle.std.specs.List.{list_any};
 ghost use Rattle.mini_broker.specs.Consumers.{is_client};
 ghost use Rattle.mini_broker.specs.Consume.{client_number, registered};
 
-use fed_journal::place::Client;
+use client_rules::Client;
 use std::alloc::{AllocError, Global};
 use std::marker::Model;
 
@@ -18,7 +18,7 @@ pub struct Clients {
 
 impl Model for Clients {
     ghost use Rattle.std.specs.Prelude.{List, ◌≤◌, length};
-    ghost use Rattle.fed_journal.specs.declared.place.Client.{Client};
+    ghost use Rattle.client_rules.specs.declared.client.Client.{Client};
 
     ghost Value = { List Client };
 

@@ -12,7 +12,7 @@ use crate::mailbox::Sweep;
 use crate::queues::Queues;
 use crate::vhost::Vhost;
 use amqp_props::Text;
-use fed_journal::place::Client;
+use client_rules::Client;
 use route_core::{Router, Sort};
 use std::alloc::AllocError;
 

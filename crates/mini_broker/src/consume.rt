@@ -11,10 +11,9 @@ use crate::clients::Clients;
 use crate::consumer::{Consumer, find_consumer, is_consumer};
 use crate::declare::is_locked;
 use crate::fault::ClientFault;
-use crate::names::is_reserved;
 use crate::vhost::Vhost;
 use amqp_props::Text;
-use fed_journal::place::Client;
+use client_rules::{Client, is_reserved};
 use queue_core::Holder;
 use std::alloc::AllocError;
 

@@ -5,7 +5,7 @@ ghost use Rattle.std.specs.Option.{option_copied};
 ghost use Rattle.mini_broker.specs.Consumers.{is_consumer as is_this_consumer};
 
 use amqp_props::Text;
-use fed_journal::place::Client;
+use client_rules::Client;
 use queue_core::Holder;
 
 /// A consumer of a client (AMQP 0-9-1, basic.consume).

@@ -9,17 +9,19 @@ ghost use Rattle.mini_broker.specs.Answers.{IsAnswer};
 ghost use Rattle.mini_broker.specs.Mail.{empty};
 ghost use Rattle.mini_broker.specs.Queues.{queue_of, emptied};
 ghost use Rattle.mini_broker.specs.Exchanges.{shape_of, declared_shape};
-ghost use Rattle.mini_broker.specs.Declare.{is_locked as is_queue_locked, same_options as options_are_same, declared_again as queue_again, declare_answer, owner_of as owner_by, with_queue, same_kind as kinds_are_same, same_shape as shapes_are_same, declared_exchange_again as exchange_again, declare_exchange_answer, with_exchange};
+ghost use Rattle.mini_broker.specs.Declare.{is_locked as is_queue_locked, declared_again as queue_again, declare_answer, with_queue, declared_exchange_again as exchange_again, declare_exchange_answer, with_exchange};
 
 use crate::exchanges::Exchanges;
 use crate::fault::ClientFault;
 use crate::mailbox::Mailbox;
-use crate::names::{is_refused_exchange, is_refused_queue};
 use crate::queues::Queues;
 use crate::standing::StandingQueue;
 use crate::vhost::Vhost;
-use amqp_props::{ExchangeKind, QueueOptions, Text};
-use fed_journal::place::{Client, ExchangeShape};
+use amqp_props::{QueueOptions, Text};
+use client_rules::{
+    Client, ExchangeShape, is_anothers, is_refused_exchange, is_refused_queue, owner_of,
+    same_options, same_shape,
+};
 use route_core::{Node, Router};
 use std::alloc::{AllocError, Global};
 
@@ -27,52 +29,7 @@ use std::alloc::{AllocError, Global};
 pub(crate) fn is_locked(who: Client, queue: &StandingQueue<Mailbox>) -> bool
     ensures { result ≡ is_queue_locked who queue.now }
 {
-    match queue.owner {
-        Some(connection) => connection != who.connection,
-        None => false,
-    }
-}
-
-/// Whether two queues are declared alike.
-fn same_options(one: QueueOptions, other: QueueOptions) -> bool
-    ensures { result ≡ options_are_same one other }
-{
-    one.durable == other.durable
-        && one.exclusive == other.exclusive
-        && one.auto_delete == other.auto_delete
-}
-
-/// Whether two exchanges are of one type.
-fn same_kind(one: ExchangeKind, other: ExchangeKind) -> bool
-    ensures { result ≡ kinds_are_same one other }
-{
-    matches!(
-        (one, other),
-        (ExchangeKind::Direct, ExchangeKind::Direct)
-            | (ExchangeKind::Fanout, ExchangeKind::Fanout)
-            | (ExchangeKind::Headers, ExchangeKind::Headers)
-            | (ExchangeKind::Topic, ExchangeKind::Topic)
-    )
-}
-
-/// Whether two exchanges are declared alike.
-fn same_shape(one: ExchangeShape, other: ExchangeShape) -> bool
-    ensures { result ≡ shapes_are_same one other }
-{
-    same_kind(one.kind, other.kind)
-        && one.durable == other.durable
-        && one.internal == other.internal
-}
-
-/// The connection that is to have the queue to itself.
-fn owner_of(who: Client, options: QueueOptions) -> Option<u32>
-    ensures { result ≡ owner_by who options }
-{
-    if options.exclusive {
-        Some(who.connection)
-    } else {
-        None
-    }
+    is_anothers(who, queue.owner)
 }
 
 /// Makes a queue in the router and in the table.

@@ -14,7 +14,7 @@ use crate::fault::ClientFault;
 use crate::queues::Queues;
 use crate::vhost::Vhost;
 use amqp_props::{Message, Text};
-use fed_journal::place::Client;
+use client_rules::Client;
 use queue_core::{CopyNo, Holder};
 use std::alloc::{AllocError, Global};
 

@@ -6,7 +6,7 @@ ghost use Rattle.fed_journal.specs.Configuration.{predeclared_kind as kind_prede
 ghost use Rattle.mini_broker.specs.Exchanges.{declared_shape, shape_of};
 
 use amqp_props::ExchangeKind;
-use fed_journal::place::ExchangeShape;
+use client_rules::ExchangeShape;
 use indexmap::IndexMap;
 use std::alloc::{AllocError, Global};
 use std::marker::Model;

@@ -11,10 +11,10 @@ ghost use Rattle.mini_broker.specs.State.{SameNames};
 ghost use Rattle.mini_broker.specs.Publish.{publish_refusal as refusal_to_publish, reached as names_reached, all_entered, with_copies, first_of, done};
 
 use crate::fault::ClientFault;
-use crate::names::is_reserved;
 use crate::queues::Queues;
 use crate::vhost::Vhost;
 use amqp_props::{Message, Text};
+use client_rules::is_reserved;
 use field_tables::Table;
 use queue_core::CopyNo;
 use route_core::Router;

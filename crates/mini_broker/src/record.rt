@@ -18,7 +18,7 @@ use crate::queues::Queues;
 use crate::settle::sweep_all;
 use crate::vhost::Vhost;
 use amqp_props::{Message, Text};
-use fed_journal::place::Client;
+use client_rules::Client;
 use queue_core::{CopyNo, Holder};
 use route_core::{Binding, Router, Sort};
 use std::alloc::AllocError;

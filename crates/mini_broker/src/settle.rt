@@ -11,7 +11,7 @@ use crate::fault::ClientFault;
 use crate::mailbox::Sweep;
 use crate::queues::Queues;
 use crate::vhost::Vhost;
-use fed_journal::place::Client;
+use client_rules::Client;
 use queue_core::CopyNo;
 
 /// Does what is done to every queue.

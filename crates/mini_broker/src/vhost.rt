@@ -15,7 +15,7 @@ use crate::deliver::held_count;
 use crate::exchanges::Exchanges;
 use crate::queues::Queues;
 use amqp_props::QueueOptions;
-use fed_journal::place::{Client, ExchangeShape};
+use client_rules::{Client, ExchangeShape};
 use queue_core::{CopyNo, Holder, Row};
 use route_core::{Binding, Router};
 use std::alloc::{AllocError, Global};

@@ -12,7 +12,8 @@ use Rattle.route_core.specs.declared.object.Sort.{Sort}
 use Rattle.route_core.specs.declared.object.Sort.TheVariants as sorts
 use Rattle.route_core.specs.declared.binding.Binding.{Binding}
 use Rattle.route_core.specs.Routing.{Routing}
-use Rattle.route_core.specs.Walks.{Publish, Stop, stop, exchange_stop, source_of, dest_of, IsWalk, IsReached, Reaches, by_name, by_walk, is_reserved}
+use Rattle.route_core.specs.Walks.{Publish, Stop, stop, exchange_stop, source_of, dest_of, IsWalk, IsReached, Reaches, by_name, by_walk}
+use Rattle.client_rules.specs.Names.{is_reserved}
 use Rattle.route_core.specs.Spreading.{is_at, is_among, left, AreStops}
 use Rattle.route_core.specs.Routes.{matches, is_followed, followed_from, stops_after, stops, is_reached}
 use Rattle.route_core.proofs.Lists.{filter_less}

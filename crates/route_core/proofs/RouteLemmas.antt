@@ -11,7 +11,8 @@ use Rattle.route_core.specs.declared.object.Object.{Object}
 use Rattle.route_core.specs.declared.binding.Binding.{Binding}
 use Rattle.route_core.specs.Objects.{sort_of, number_of, is_named, is_after, rises}
 use Rattle.route_core.specs.Routing.{Routing, object_named}
-use Rattle.route_core.specs.Walks.{Publish, Stop, queue_stop, IsReached, Reaches, by_name, by_walk, IsQueue, AreRoutes, IsWalkLimit, is_reserved}
+use Rattle.route_core.specs.Walks.{Publish, Stop, queue_stop, IsReached, Reaches, by_name, by_walk, IsQueue, AreRoutes, IsWalkLimit}
+use Rattle.client_rules.specs.Names.{is_reserved}
 use Rattle.route_core.specs.Spreading.{is_among, AreStops, number_at, GateAt}
 use Rattle.route_core.proofs.Lists.{All-filter_map, Contains-filter_map, rising-filter_map}
 use Rattle.route_core.proofs.StopLemmas.{among_all, among_last, stop_is}

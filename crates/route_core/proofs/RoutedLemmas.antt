@@ -13,7 +13,8 @@ use Rattle.route_core.specs.declared.object.Node.TheVariants as nodes
 use Rattle.route_core.specs.declared.object.Object.{Object}
 use Rattle.route_core.specs.Objects.{same_sort, sort_of, number_of}
 use Rattle.route_core.specs.Routing.{Routing, object_named}
-use Rattle.route_core.specs.Walks.{Publish, Stop, IsReached, Reaches, by_walk, is_reserved}
+use Rattle.route_core.specs.Walks.{Publish, Stop, IsReached, Reaches, by_walk}
+use Rattle.client_rules.specs.Names.{is_reserved}
 use Rattle.route_core.specs.Spreading.{is_among, is_queue_at, number_at, AreStops}
 use Rattle.route_core.specs.Routes.{is_reached, is_routed, routed, routed_names, routed_numbers}
 use Rattle.route_core.specs.Laws.{IsReachedQueue}

@@ -14,7 +14,8 @@ use Rattle.route_core.specs.declared.object.Object.{Object}
 use Rattle.route_core.specs.declared.binding.Binding.{Binding}
 use Rattle.route_core.specs.Objects.{same_sort, sort_of, number_of}
 use Rattle.route_core.specs.Routing.{Routing}
-use Rattle.route_core.specs.Walks.{Publish, Stop, exchange_stop, dest_of, exchange_node, is_reserved}
+use Rattle.route_core.specs.Walks.{Publish, Stop, exchange_stop, dest_of, exchange_node}
+use Rattle.client_rules.specs.Names.{is_reserved}
 use Rattle.route_core.specs.Spreading.{is_among}
 
 -- Whether a binding takes the message, by the type of the exchange that it leaves (AMQP 0-9-1, 3.1.3 "Exchange Types").

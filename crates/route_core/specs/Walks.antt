@@ -6,6 +6,7 @@ use Rattle.std.specs.Option.{option_map}
 use Rattle.field_tables.specs.Fields.{Pairs}
 use Rattle.amqp_props.specs.declared.link.ExchangeKind.{ExchangeKind}
 use Rattle.amqp_props.specs.declared.link.ExchangeKind.TheVariants as kinds
+use Rattle.client_rules.specs.Names.{is_reserved}
 use Rattle.binding_match.specs.Topics.{words, Covers}
 use Rattle.binding_match.specs.Headers.{HeadersMatch}
 use Rattle.hop_headers.specs.Gate.{GatePasses}
@@ -77,10 +78,6 @@ IsWalk r p at (b ∷ walk) to = (at ≡ source_of b) × Contains r.bindings b ×
 -- Some walk from the exchange of the message leads there.
 abbrev pub IsReached : Routing → Publish → Stop → Type 0
 IsReached r p to = (walk : List Binding) × IsWalk r p (exchange_stop p.exchange) walk to
-
--- Names that the default exchange doesn't route to, as they are those of federation links.
-abbrev pub is_reserved : List ℕ → Bool
-is_reserved name = starts_with nat_eq name (codes "federation: ")
 
 -- The default exchange routes to the queue that the routing key names (AMQP 0-9-1, 3.1.3.1 "The Direct Exchange Type"), every other one over walks.
 pub data Reaches (r : Routing) (p : Publish) (name : List ℕ) : Type 0 where

@@ -206,14 +206,7 @@ impl Router {
     }
 
     /// Binds a queue or an exchange to an exchange; false exactly where an equal binding stands. Takes no memory.
-    pub fn tie(
-        &mut self,
-        source: Text,
-        sort: Sort,
-        dest: Text,
-        key: Text,
-        args: Table,
-    ) -> bool
+    pub fn tie(&mut self, source: Text, sort: Sort, dest: Text, key: Text, args: Table) -> bool
         requires spare { 0 < self.old.spare_bindings }
         requires source { has_object sorts.Exchange source self.old.routing.objects ≡ true }
         requires dest { has_object sort dest self.old.routing.objects ≡ true }

@@ -2,18 +2,17 @@
 
 ghost use Rattle.std.specs.Prelude.{◌≡◌, ◌<◌, true, false, [], ◌∷◌, IfOk, length, slice_index_or, if◌then◌else◌};
 ghost use Rattle.field_tables.specs.View.{table_view};
-ghost use Rattle.route_core.specs.Walks.{publish, Stop, source_of, exchange_stop, queue_stop, Matches, is_reserved as is_reserved_name};
+ghost use Rattle.route_core.specs.Walks.{publish, Stop, source_of, exchange_stop, queue_stop, Matches};
+ghost use Rattle.client_rules.specs.Names.{is_reserved as is_reserved_name};
 ghost use Rattle.route_core.specs.Spreading.{is_among as is_among_stops, LeadsOn, Spreads, AreStops};
 
 use crate::binding::Binding;
 use crate::object::{Object, Sort, same_sort};
 use crate::taking::matches;
+use client_rules::is_reserved;
 use field_tables::Table;
 use std::alloc::{AllocError, Global};
 use std::marker::Model;
-
-/// How the names begin that the default exchange does not route to.
-const RESERVED: &[u8] = b"federation: ";
 
 /// What a message is published with.
 #[derive(Clone, Copy)]
@@ -158,10 +157,4 @@ pub(crate) fn reach_named<'a>(
         })?;
     }
     Ok(stops)
-}
-
-fn is_reserved(name: &str) -> bool
-    ensures { result ≡ is_reserved_name name.now }
-{
-    name.as_bytes().starts_with(RESERVED)
 }

@@ -8,9 +8,9 @@ use crate::reason::Reason;
 use crate::row::{Row, lock_refusal, nothing, one};
 use amqp_props::Text;
 use broker_view::run::Run;
+use client_rules::is_reserved;
 use fed_journal::entry::Entry;
 use fed_journal::place::Place;
-use fed_journal::text::is_reserved;
 use route_core::{Binding, Sort};
 use std::alloc::{AllocError, Global};
 
@@ -18,7 +18,7 @@ use std::alloc::{AllocError, Global};
 fn is_unbindable(name: &Text) -> bool
     ensures { result ≡ is_unbindable name.now }
 {
-    name.as_str().is_empty() || is_reserved(name)
+    name.as_str().is_empty() || is_reserved(name.as_str())
 }
 
 /// Whether a queue or an exchange of that name stands.

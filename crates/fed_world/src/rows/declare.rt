@@ -8,9 +8,10 @@ use crate::reason::Reason;
 use crate::row::{Row, lock_refusal, nothing, one};
 use amqp_props::{ExchangeKind, QueueOptions, Text};
 use broker_view::run::Run;
+use client_rules::is_reserved;
 use fed_journal::entry::Entry;
 use fed_journal::place::{ExchangeShape, Place};
-use fed_journal::text::{begins_with, is_reserved};
+use fed_journal::text::begins_with;
 use std::alloc::{AllocError, Global};
 
 /// The options of a durable queue that is shared and stays.
@@ -41,7 +42,7 @@ fn is_refused(run: &Run<'_>, place: &Place, queue: &Text) -> bool
     ensures { result ≡ is_refused run.now place.now queue.now }
 {
     queue.as_str().is_empty()
-        || is_reserved(queue)
+        || is_reserved(queue.as_str())
         || (is_broker_name(queue) && !stands(run, place, queue))
 }
 
@@ -154,7 +155,7 @@ fn is_exchange_refused(run: &Run<'_>, place: &Place, exchange: &Text) -> bool
     ensures { result ≡ is_exchange_refused run.now place.now exchange.now }
 {
     exchange.as_str().is_empty()
-        || is_reserved(exchange)
+        || is_reserved(exchange.as_str())
         || (begins_with(exchange, b"amq.") && run.exchange_shape(place, exchange).is_none())
 }
 

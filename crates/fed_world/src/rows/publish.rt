@@ -11,10 +11,11 @@ use crate::reason::Reason;
 use crate::row::{Row, channel_of, one};
 use amqp_props::{Message, Text};
 use broker_view::run::Run;
+use client_rules::is_reserved;
 use fed_journal::entry::{Entry, Publication, Publisher};
 use fed_journal::journal::Numbers;
 use fed_journal::place::{ExchangeShape, Place};
-use fed_journal::text::{Names, is_reserved};
+use fed_journal::text::Names;
 use std::alloc::{AllocError, Global};
 
 /// The number of the publication's first copy, 0 if it has none.
@@ -78,7 +79,7 @@ fn publish_refusal(run: &Run<'_>, place: &Place, exchange: &Text) -> Option<Reas
     requires { is_place run.now place.now ≡ true }
     ensures { result ≡ publish_refusal run.now place.now exchange.now }
 {
-    if is_reserved(exchange) {
+    if is_reserved(exchange.as_str()) {
         Some(Reason::Refused(403))
     } else if exchange.as_str().is_empty() {
         None
