@@ -12,6 +12,3 @@ pub use command::Command;
 pub use fault::ContentFault;
 pub use laws::{commands_are_one, parts_are_no_commands, parts_begin_commands};
 pub use part::MAX_BODY;
-
-#[cfg(test)]
-mod tests;

@@ -8,8 +8,6 @@ mod laws;
 mod next;
 mod splitter;
 mod stage;
-#[cfg(test)]
-mod tests;
 
 pub use fault::FrameFault;
 pub use frame::{FRAME_END, Frame, MAX_PAYLOAD, write_frame};

@@ -14,6 +14,3 @@ pub use fault::MethodFault;
 pub use laws::{rows_are_methods, rows_are_once};
 pub use method::Method;
 pub use rows::{METHODS, Row, find};
-
-#[cfg(test)]
-mod tests;

@@ -26,6 +26,3 @@ pub use reading::read_header;
 pub use row::{PROPERTIES, PropertyKind, Row, property};
 pub use text::{FieldTable, Octets};
 pub use writing::write_header;
-
-#[cfg(test)]
-mod tests;

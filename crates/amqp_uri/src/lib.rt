@@ -4,8 +4,6 @@
 mod escape;
 mod fault;
 mod parts;
-#[cfg(test)]
-mod tests;
 mod uri;
 
 pub use fault::UriFault;

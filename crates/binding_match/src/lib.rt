@@ -7,6 +7,3 @@ mod value;
 
 pub use headers::headers_match;
 pub use topic::topic_matches;
-
-#[cfg(test)]
-mod tests;

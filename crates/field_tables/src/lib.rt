@@ -19,6 +19,3 @@ pub use reading::read_table;
 pub use text::Text;
 pub use value::{FieldValue, Table};
 pub use writing::write_table;
-
-#[cfg(test)]
-mod tests;

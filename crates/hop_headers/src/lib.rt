@@ -19,6 +19,3 @@ pub use laws::{gates_decide, propagation_goes_on, results_have_spellings, stamps
 pub use propagation::propagate;
 pub use stamps::{stamp_exchange, stamp_queue};
 pub use field_tables::Text;
-
-#[cfg(test)]
-mod tests;
