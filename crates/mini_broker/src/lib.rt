@@ -35,6 +35,3 @@ pub use publish::Accepted;
 pub use queues::Queues;
 pub use standing::StandingQueue;
 pub use vhost::Vhost;
-
-#[cfg(test)]
-mod tests;
