@@ -13,8 +13,8 @@ use Rattle.fed_journal.specs.Copies.{Standing, Unknown, Held, publication_of, en
 use Rattle.fed_journal.specs.Consumers as journal
 use Rattle.amqp_props.specs.declared.message.Message.{Message}
 use Rattle.mini_broker.specs.Vhosts.{bare}
-use Rattle.mini_broker.specs.Queues.{Named, IsLast}
-use Rattle.mini_broker.proofs.NameLemmas.{bare_routed}
+use Rattle.broker_store.specs.Queues.{Named, IsLast}
+use Rattle.mini_broker.proofs.RoutedLemmas.{bare_routed}
 use Rattle.broker_view.specs.Suits.{is_begun}
 use Rattle.broker_view.specs.View.{IsNumbered, IsConfigured, HasConsumers, HasCopies, IsCounted, IsView, HasHome, RowStands}
 use Rattle.broker_view.proofs.ViewStep.{view-step}

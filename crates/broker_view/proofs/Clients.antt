@@ -9,13 +9,13 @@ use Rattle.fed_journal.specs.declared.entry.Entry.TheVariants.{MadeQueue, MadeEx
 use Rattle.fed_journal.specs.Names.{same_text, same_place}
 use Rattle.fed_journal.specs.Routes.{bound, unbound}
 use Rattle.fed_journal.specs.Consumers as journal
-use Rattle.mini_broker.specs.declared.consumer.Consumer.{Consumer}
-use Rattle.mini_broker.specs.declared.mailbox.Sweep.TheVariants as sweeps
-use Rattle.mini_broker.specs.Consumers.{is_client}
+use Rattle.broker_store.specs.declared.consumer.Consumer.{Consumer}
+use Rattle.broker_store.specs.declared.mailbox.Sweep.TheVariants as sweeps
+use Rattle.broker_store.specs.Consumers.{is_client, registered, client_number}
 use Rattle.mini_broker.specs.State.{VhostState}
 use Rattle.mini_broker.specs.Declare.{with_queue, with_exchange}
 use Rattle.mini_broker.specs.Bind.{with_routing}
-use Rattle.mini_broker.specs.Consume.{registered, client_number, new_consumer, with_consumer, without_consumer}
+use Rattle.mini_broker.specs.Consume.{new_consumer, with_consumer, without_consumer}
 use Rattle.mini_broker.specs.Settle.{with_purged, all_swept}
 use Rattle.mini_broker.specs.Close.{disconnected, without_queue}
 use Rattle.mini_broker.specs.Record.{with_entered, with_handed}

@@ -22,20 +22,20 @@ use Rattle.fed_journal.specs.Names.{same_text, same_place}
 use Rattle.fed_journal.specs.Configuration.{queue_options, options_step, queue_owner, owner_step, queues_of, queues_step, exchange_shape, shape_step, predeclared_shape}
 use Rattle.fed_journal.specs.Routes.{Site, site, site_of, site_step, first_site, made, gone, bound, unbound, has_ends}
 use Rattle.amqp_props.specs.declared.message.Message.{Message}
-use Rattle.mini_broker.specs.declared.consumer.Consumer.{Consumer}
-use Rattle.mini_broker.specs.declared.mailbox.Sweep.TheVariants as sweeps
-use Rattle.mini_broker.specs.Mail.{swept, purged, handed, left, released, given}
-use Rattle.mini_broker.specs.Queues.{Standing, Named, queue_of, changed, all_changed, with_mail}
-use Rattle.mini_broker.specs.Exchanges.{NamedShape, shape_of, declared_shape}
+use Rattle.broker_store.specs.declared.consumer.Consumer.{Consumer}
+use Rattle.broker_store.specs.declared.mailbox.Sweep.TheVariants as sweeps
+use Rattle.broker_store.specs.Mail.{swept, purged, handed, left, released, given}
+use Rattle.broker_store.specs.Queues.{Standing, Named, queue_of, changed, all_changed, with_mail, all_entered}
+use Rattle.broker_store.specs.Exchanges.{NamedShape, shape_of, declared_shape}
 use Rattle.mini_broker.specs.State.{VhostState, AreRouted}
 use Rattle.mini_broker.specs.Declare.{with_queue, with_exchange, made_queue}
 use Rattle.mini_broker.specs.Bind.{with_routing}
-use Rattle.mini_broker.specs.Publish.{all_entered}
-use Rattle.mini_broker.specs.Consume.{registered, new_consumer, without_consumer}
+use Rattle.broker_store.specs.Consumers.{registered}
+use Rattle.mini_broker.specs.Consume.{new_consumer, without_consumer}
 use Rattle.mini_broker.specs.Deliver.{handed_over}
 use Rattle.mini_broker.specs.Close.{without_queue, freed_from, disconnected}
 use Rattle.mini_broker.specs.Record.{holder_as}
-use Rattle.mini_broker.proofs.NameLemmas.{routed_queue, routed_exchange, free_queue, free_exchange, not_declared}
+use Rattle.mini_broker.proofs.RoutedLemmas.{routed_queue, routed_exchange, free_queue, free_exchange, not_declared}
 use Rattle.broker_view.specs.View.{IsConfigured, AreDistinct}
 use Rattle.broker_view.specs.Suits.{Suits}
 use Rattle.broker_view.specs.Recorded.{recorded, session_holder}

@@ -14,8 +14,8 @@ use Rattle.fed_journal.specs.declared.entry.Entry.TheVariants.{GoneQueue, Consum
 use Rattle.fed_journal.specs.Names.{same_text, same_place}
 use Rattle.fed_journal.specs.Holders.{same_client}
 use Rattle.fed_journal.specs.Consumers as journal
-use Rattle.mini_broker.specs.declared.consumer.Consumer.{Consumer}
-use Rattle.mini_broker.specs.Consumers.{is_client, is_consumer}
+use Rattle.broker_store.specs.declared.consumer.Consumer.{Consumer}
+use Rattle.broker_store.specs.Consumers.{is_client, is_consumer}
 use Rattle.mini_broker.specs.State.{VhostState}
 use Rattle.mini_broker.specs.Consume.{new_consumer, with_consumer, without_consumer}
 use Rattle.mini_broker.specs.Close.{is_on, consumes_from, disconnected, without_queue}

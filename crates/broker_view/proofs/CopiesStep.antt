@@ -13,9 +13,9 @@ use Rattle.fed_journal.specs.Names.{same_text, same_place}
 use Rattle.fed_journal.specs.Holders as holders
 use Rattle.fed_journal.specs.Copies.{Ready, Held, Left, copy_count, publication_of, entered_by}
 use Rattle.fed_journal.specs.Routes.{bound, unbound}
-use Rattle.mini_broker.specs.declared.mailbox.Sweep.TheVariants as sweeps
-use Rattle.mini_broker.specs.Mail as mail
-use Rattle.mini_broker.specs.Queues.{queue_of}
+use Rattle.broker_store.specs.declared.mailbox.Sweep.TheVariants as sweeps
+use Rattle.broker_store.specs.Mail as mail
+use Rattle.broker_store.specs.Queues.{queue_of}
 use Rattle.mini_broker.specs.State.{VhostState}
 use Rattle.mini_broker.specs.Declare.{with_queue, with_exchange, made_queue}
 use Rattle.mini_broker.specs.Bind.{with_routing}

@@ -18,14 +18,14 @@ use Rattle.fed_journal.specs.declared.entry.Entry.TheVariants.{MadeQueue, MadeEx
 use Rattle.fed_journal.specs.Names.{same_text, same_place}
 use Rattle.fed_journal.specs.Copies.{copy_count, copies_made, is_copy_of, publication_of}
 use Rattle.fed_journal.specs.Routes.{bound, unbound}
-use Rattle.mini_broker.specs.declared.mailbox.CopyMessage.{CopyMessage}
-use Rattle.mini_broker.specs.declared.mailbox.Sweep.TheVariants as sweeps
-use Rattle.mini_broker.specs.Mail.{Mail, entered, fresh, as_seen, handed, left, given, released, released_from, purged, swept}
-use Rattle.mini_broker.specs.Queues.{Standing, Named, changed, all_changed, with_mail, IsLast, AreAbove}
+use Rattle.broker_store.specs.declared.mailbox.CopyMessage.{CopyMessage}
+use Rattle.broker_store.specs.declared.mailbox.Sweep.TheVariants as sweeps
+use Rattle.broker_store.specs.Mail.{Mail, entered, fresh, as_seen, handed, left, given, released, released_from, purged, swept}
+use Rattle.broker_store.specs.Queues.{Standing, Named, changed, all_changed, with_mail, IsLast, AreAbove, all_entered}
 use Rattle.mini_broker.specs.State.{VhostState}
 use Rattle.mini_broker.specs.Declare.{with_queue, with_exchange, made_queue}
 use Rattle.mini_broker.specs.Bind.{with_routing}
-use Rattle.mini_broker.specs.Publish.{all_entered, first_of}
+use Rattle.mini_broker.specs.Publish.{first_of}
 use Rattle.mini_broker.specs.Consume.{new_consumer, with_consumer, without_consumer}
 use Rattle.mini_broker.specs.Settle.{all_swept, with_purged}
 use Rattle.mini_broker.specs.Close.{freed_from, disconnected, without_queue}

@@ -8,10 +8,9 @@ use Rattle.amqp_props.specs.declared.message.Message.{Message}
 use Rattle.queue_core.specs.declared.rows.Row.{Row}
 use Rattle.queue_core.specs.Rows as rows
 use Rattle.fed_journal.specs.Names.{same_text}
-use Rattle.mini_broker.specs.Mail.{entered}
-use Rattle.mini_broker.specs.Queues.{Named, queue_of, changed, with_mail}
-use Rattle.mini_broker.specs.Publish.{all_entered}
-use Rattle.mini_broker.proofs.NameLemmas.{stands_changed}
+use Rattle.broker_store.specs.Mail.{entered}
+use Rattle.broker_store.specs.Queues.{Named, queue_of, changed, with_mail, all_entered}
+use Rattle.broker_store.proofs.NameLemmas.{stands_changed}
 use Rattle.broker_view.specs.View.{AreDistinct, rows_in}
 use Rattle.broker_view.proofs.Names.{same_text-true}
 use Rattle.broker_view.proofs.Publications.{or_len-here, or_len-later}

@@ -9,9 +9,9 @@ use Rattle.queue_core.specs.declared.rows.Row.{Row}
 use Rattle.queue_core.specs.Rows.{is_of_client, freed_of, released_client}
 use Rattle.client_rules.specs.declared.client.Client.{Client}
 use Rattle.amqp_props.specs.declared.message.Message.{Message}
-use Rattle.mini_broker.specs.Consumers.{is_client}
-use Rattle.mini_broker.specs.Mail.{released_from}
-use Rattle.mini_broker.specs.Queues.{Named, all_changed, with_mail}
+use Rattle.broker_store.specs.Consumers.{is_client}
+use Rattle.broker_store.specs.Mail.{released_from}
+use Rattle.broker_store.specs.Queues.{Named, all_changed, with_mail}
 use Rattle.mini_broker.specs.Close.{freed_from}
 use Rattle.broker_view.specs.View.{rows_in}
 use Rattle.broker_view.proofs.Publications.{position-none, position-here, position-later}

@@ -21,10 +21,9 @@ use Rattle.fed_journal.specs.Holders.{same_client, is_client}
 use Rattle.fed_journal.specs.Copies.{Standing, Unknown, Ready, Held, Left, is_left, entered, standing}
 use Rattle.fed_journal.specs.Holds.{holder, holder_in, is_held_by, is_client_of}
 use Rattle.amqp_props.specs.declared.message.Message.{Message}
-use Rattle.mini_broker.specs.Queues.{Standing as QueueOf}
-use Rattle.mini_broker.specs.Consumers as consumers
-use Rattle.mini_broker.specs.Mail.{Mail, is_held_at}
-use Rattle.mini_broker.specs.Queues.{Named, queue_of, is_held_in}
+use Rattle.broker_store.specs.Queues.{Standing as QueueOf, Named, queue_of, is_held_in}
+use Rattle.broker_store.specs.Consumers as consumers
+use Rattle.broker_store.specs.Mail.{Mail, is_held_at}
 use Rattle.mini_broker.specs.Settle.{holds_as}
 use Rattle.mini_broker.specs.State.{VhostState}
 use Rattle.broker_view.specs.View.{AreDistinct, HasCopies, IsHolder, StandsAs, RowStands, is_there, rows_in}

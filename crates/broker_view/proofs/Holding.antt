@@ -16,10 +16,10 @@ use Rattle.fed_journal.specs.Names.{same_text, same_place}
 use Rattle.fed_journal.specs.Holders as holders
 use Rattle.fed_journal.specs.Holders.{same_client}
 use Rattle.fed_journal.specs.Consumers as journal
-use Rattle.mini_broker.specs.declared.consumer.Consumer.{Consumer}
-use Rattle.mini_broker.specs.Consumers.{is_client, is_consumer}
+use Rattle.broker_store.specs.declared.consumer.Consumer.{Consumer}
+use Rattle.broker_store.specs.Consumers.{is_client, is_consumer, registered}
 use Rattle.mini_broker.specs.State.{VhostState}
-use Rattle.mini_broker.specs.Consume.{consumer_of, registered, holder_for, new_consumer, with_consumer, without_consumer}
+use Rattle.mini_broker.specs.Consume.{consumer_of, holder_for, new_consumer, with_consumer, without_consumer}
 use Rattle.mini_broker.specs.Close.{is_on, consumes_from, disconnected, without_queue}
 use Rattle.mini_broker.specs.Record.{with_handed, holder_as}
 use Rattle.broker_view.specs.Recorded.{recorded}

@@ -10,7 +10,7 @@ use Rattle.fed_journal.specs.declared.place.Place.{Place}
 use Rattle.fed_journal.specs.declared.entry.Entry.{Entry}
 use Rattle.fed_journal.specs.Names.{same_text}
 use Rattle.fed_journal.specs.Configuration.{is_broker, is_place}
-use Rattle.mini_broker.specs.declared.account.Account.{Account}
+use Rattle.broker_store.specs.declared.account.Account.{Account}
 use Rattle.mini_broker.specs.State.{VhostState}
 use Rattle.broker_view.specs.declared.host.Host.{Host}
 use Rattle.broker_view.specs.Confirms.{HasConfirms}

@@ -15,8 +15,8 @@ use Rattle.fed_journal.specs.declared.entry.Entry.{Entry}
 use Rattle.fed_journal.specs.declared.entry.Entry.TheVariants.{GoneQueue, Published, Flushed, Settled, Delivered, Acked, Rejected, Purged, Confirmed}
 use Rattle.fed_journal.specs.Copies.{is_publication, publication_count}
 use Rattle.fed_journal.specs.Names.{same_text, same_place}
-use Rattle.mini_broker.specs.declared.account.Account.{Account}
-use Rattle.mini_broker.specs.Confirms.{is_of, ledger_of, with_ledger, all_ledgers, its_ledger, with_account, opened, all_left, AreBelow}
+use Rattle.broker_store.specs.declared.account.Account.{Account}
+use Rattle.broker_store.specs.Confirms.{is_of, ledger_of, with_ledger, all_ledgers, its_ledger, with_account, opened, all_left, AreBelow}
 use Rattle.mini_broker.specs.State.{VhostState}
 use Rattle.broker_view.specs.Suits.{Suits}
 use Rattle.broker_view.specs.Told.{with_publication, must_wait, ready_copies, all_copies, told}

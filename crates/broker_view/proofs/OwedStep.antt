@@ -13,8 +13,8 @@ use Rattle.fed_journal.specs.declared.entry.Entry.TheVariants.{GoneQueue, Publis
 use Rattle.fed_journal.specs.Names.{same_text, same_place}
 use Rattle.fed_journal.specs.Copies.{publication_count, publication_in, is_secured}
 use Rattle.fed_journal.specs.Flight.{confirmed_to, copy_published_by, flight_published}
-use Rattle.mini_broker.specs.declared.account.Account.{Account}
-use Rattle.mini_broker.specs.Confirms.{ledger_of, all_ledgers, all_left}
+use Rattle.broker_store.specs.declared.account.Account.{Account}
+use Rattle.broker_store.specs.Confirms.{ledger_of, all_ledgers, all_left}
 use Rattle.mini_broker.specs.State.{VhostState}
 use Rattle.broker_view.specs.Confirms.{publications, is_by, is_open_at, open_at, awaited, HasConfirms, IsKnown, HasPublications, ArePublishedAt}
 use Rattle.broker_view.specs.Suits.{Suits}

@@ -11,9 +11,8 @@ use Rattle.fed_journal.specs.declared.entry.Entry.{Entry}
 use Rattle.fed_journal.specs.Configuration.{is_connection_in, is_exclusive_in, queue_options, goes_with, queues_owned}
 use Rattle.fed_journal.specs.Messages.{headers_of}
 use Rattle.fed_journal.specs.Routes.{routes}
-use Rattle.mini_broker.specs.Close.{is_owned, owned_names}
+use Rattle.broker_store.specs.Queues.{is_owned, owned_names, Standing, Named}
 use Rattle.mini_broker.specs.Publish.{reached}
-use Rattle.mini_broker.specs.Queues.{Standing, Named}
 use Rattle.mini_broker.specs.State.{VhostState}
 use Rattle.broker_view.specs.View.{AreDistinct, IsConfigured}
 use Rattle.broker_view.proofs.HeldBy.{IsAmong, among-head, among-later}

@@ -19,10 +19,9 @@ use Rattle.fed_journal.specs.Copies.{Standing, Unknown, Ready, Held, Left, is_le
 use Rattle.fed_journal.specs.Holds.{holder, holder_in, is_ready, first_ready, ready_count}
 use Rattle.fed_journal.specs.Consumers.{is_held_for, is_consumer_of, handed_since, held_count}
 use Rattle.amqp_props.specs.declared.message.Message.{Message}
-use Rattle.mini_broker.specs.Queues.{Standing as QueueOf}
-use Rattle.mini_broker.specs.declared.consumer.Consumer.{Consumer}
-use Rattle.mini_broker.specs.Queues as queues
-use Rattle.mini_broker.specs.Queues.{Named, queue_of}
+use Rattle.broker_store.specs.Queues.{Standing as QueueOf, Named, queue_of}
+use Rattle.broker_store.specs.declared.consumer.Consumer.{Consumer}
+use Rattle.broker_store.specs.Queues as queues
 use Rattle.mini_broker.specs.Deliver as deliver
 use Rattle.mini_broker.specs.State.{VhostState}
 use Rattle.broker_view.specs.View.{HasCopies, StandsAs, RowStands, IsHolder, is_there, rows_in}

@@ -7,8 +7,8 @@ use Rattle.std.proofs.lemmas.Bool.{false≢true}
 use Rattle.queue_core.specs.declared.rows.Row.{Row}
 use Rattle.fed_journal.specs.Names.{same_text}
 use Rattle.amqp_props.specs.declared.message.Message.{Message}
-use Rattle.mini_broker.specs.Mail.{Mail}
-use Rattle.mini_broker.specs.Queues.{Standing, Named, queue_of, changed, all_changed, with_mail}
+use Rattle.broker_store.specs.Mail.{Mail}
+use Rattle.broker_store.specs.Queues.{Standing, Named, queue_of, changed, all_changed, with_mail}
 use Rattle.broker_view.specs.View.{rows_in}
 use Rattle.broker_view.proofs.Names.{same_text-true, same_text-sym}
 

@@ -26,7 +26,7 @@ use Rattle.fed_journal.specs.Configuration.{queue_options}
 use Rattle.fed_journal.specs.Messages.{headers_of}
 use Rattle.fed_journal.specs.Names.{same_text}
 use Rattle.fed_journal.specs.Routes.{Site, first_site, site, site_at, site_step, is_at, made, gone, bound, unbound, has_ends, routes}
-use Rattle.mini_broker.specs.Queues.{Standing, queue_of}
+use Rattle.broker_store.specs.Queues.{Standing, queue_of}
 use Rattle.mini_broker.specs.State.{VhostState}
 use Rattle.broker_view.specs.View.{IsConfigured, AreDistinct}
 use Rattle.broker_view.proofs.Names.{same_text-refl, same_text-sym}

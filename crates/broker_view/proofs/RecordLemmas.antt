@@ -9,7 +9,7 @@ use Rattle.fed_journal.specs.Names.{same_place}
 use Rattle.fed_journal.specs.Copies.{copy_count}
 use Rattle.fed_journal.specs.Holds.{first_ready}
 use Rattle.mini_broker.specs.Publish.{first_of}
-use Rattle.mini_broker.specs.Queues.{ready_in, AreAbove}
+use Rattle.broker_store.specs.Queues.{ready_in, AreAbove}
 use Rattle.mini_broker.specs.Record.{with_handed}
 use Rattle.mini_broker.specs.State.{VhostState}
 use Rattle.broker_view.specs.declared.host.Host.{Host}

@@ -11,7 +11,7 @@ use Rattle.fed_journal.specs.declared.entry.Entry.{Entry}
 use Rattle.fed_journal.specs.declared.entry.Entry.TheVariants.{Published}
 use Rattle.fed_journal.specs.Messages.{is_persistent}
 use Rattle.fed_journal.specs.Copies.{Standing, Left, is_left, standing, standing_step, moved, is_copy_of, enters, flushes, publication_in, publication_of, is_lasting_at, is_copy_secured, is_stored, must_be_stored, must_be_stored_at, must_be_stored_from, is_flushed_in, is_flushed_from}
-use Rattle.mini_broker.proofs.NameLemmas.{any_push}
+use Rattle.broker_store.proofs.NameLemmas.{any_push}
 use Rattle.broker_view.specs.View.{is_there}
 use Rattle.broker_view.proofs.Finds.{position-some, position-longer, position-push, from-none}
 use Rattle.broker_view.proofs.Publications.{position-none, position-here, position-later, position-within, standing-push, standing-fresh}

@@ -23,8 +23,8 @@ use Rattle.fed_journal.specs.declared.entry.Entry.{Entry}
 use Rattle.fed_journal.specs.declared.entry.Entry.TheVariants.{MadeQueue, MadeExchange, GoneQueue, Bound, Unbound}
 use Rattle.fed_journal.specs.Routes.{Site, first_site, site, site_at, site_step, is_at, made, gone, bound, unbound, has_ends}
 use Rattle.amqp_props.specs.declared.message.Message.{Message}
-use Rattle.mini_broker.specs.Exchanges.{NamedShape}
-use Rattle.mini_broker.specs.Queues.{Named, queue_of}
+use Rattle.broker_store.specs.Exchanges.{NamedShape}
+use Rattle.broker_store.specs.Queues.{Named, queue_of}
 use Rattle.mini_broker.specs.State.{AreRouted}
 use Rattle.broker_view.proofs.Names.{same_text-true}
 

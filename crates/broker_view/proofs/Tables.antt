@@ -11,9 +11,8 @@ use Rattle.amqp_props.specs.declared.link.QueueOptions.{QueueOptions}
 use Rattle.amqp_props.specs.declared.message.Message.{Message}
 use Rattle.client_rules.specs.declared.client.Client.{Client}
 use Rattle.fed_journal.specs.Names.{same_text}
-use Rattle.mini_broker.specs.Mail.{Mail, entered, released_from}
-use Rattle.mini_broker.specs.Queues.{Standing, Named, queue_of, changed, all_changed, with_mail}
-use Rattle.mini_broker.specs.Publish.{all_entered}
+use Rattle.broker_store.specs.Mail.{Mail, entered, released_from}
+use Rattle.broker_store.specs.Queues.{Standing, Named, queue_of, changed, all_changed, with_mail, all_entered}
 use Rattle.mini_broker.specs.Close.{freed_from}
 use Rattle.broker_view.specs.View.{AreDistinct}
 use Rattle.broker_view.proofs.Names.{same_text-sym}

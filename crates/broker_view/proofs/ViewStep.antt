@@ -10,7 +10,7 @@ use Rattle.fed_journal.specs.declared.entry.Entry.TheVariants.{Published, Delive
 use Rattle.fed_journal.specs.Configuration.{queue_options}
 use Rattle.fed_journal.specs.Routes.{routes}
 use Rattle.amqp_props.specs.declared.message.Message.{Message}
-use Rattle.mini_broker.specs.Queues.{Standing, queue_of}
+use Rattle.broker_store.specs.Queues.{Standing, queue_of}
 use Rattle.mini_broker.specs.Record.{holder_as}
 use Rattle.mini_broker.specs.State.{VhostState}
 use Rattle.broker_view.specs.View.{AreDistinct, IsConfigured, HasConsumers, IsChannel, IsView}

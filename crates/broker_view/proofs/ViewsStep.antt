@@ -9,7 +9,7 @@ use Rattle.fed_journal.specs.declared.entry.Entry.TheVariants.{Begun, Published}
 use Rattle.fed_journal.specs.Copies.{IsFitting, publication_of}
 use Rattle.fed_journal.specs.Names.{same_text}
 use Rattle.fed_journal.specs.Configuration.{begins, is_broker}
-use Rattle.mini_broker.specs.Confirms.{AreBelow}
+use Rattle.broker_store.specs.Confirms.{AreBelow}
 use Rattle.mini_broker.specs.Vhosts.{bare}
 use Rattle.broker_view.specs.Confirms.{publications, HasConfirms, HasPublications}
 use Rattle.broker_view.specs.declared.host.Host.{Host}

@@ -19,7 +19,7 @@ use Rattle.fed_journal.specs.Messages.{is_persistent}
 use Rattle.fed_journal.specs.Copies.{is_waiting, is_home, is_copy_of, is_copy_secured, is_lasting, is_lasting_at, copy_count, numbers_from, publication_of, entered, standing}
 use Rattle.fed_journal.specs.Holds.{is_ready}
 use Rattle.mini_broker.specs.Publish.{first_of}
-use Rattle.mini_broker.specs.Queues.{queue_of}
+use Rattle.broker_store.specs.Queues.{queue_of}
 use Rattle.mini_broker.specs.State.{VhostState}
 use Rattle.broker_view.specs.View.{IsConfigured, HasHome, HaveHomes, HasCopies, RowStands, is_there, rows_in}
 use Rattle.broker_view.specs.Confirms.{awaited, IsKnown}

@@ -8,8 +8,8 @@ use Rattle.fed_journal.specs.declared.entry.Entry.{Entry}
 use Rattle.fed_journal.specs.Names.{same_place}
 use Rattle.fed_journal.specs.Copies.{publication_in, publication_count, publication_of, find_publication, is_copy_of, is_copy_secured, is_home, numbers_from, entered}
 use Rattle.fed_journal.specs.Flight.{has, confirmed_to, copy_published_by}
-use Rattle.mini_broker.specs.declared.account.Account.{Account}
-use Rattle.mini_broker.specs.Confirms.{ledger_of, AreBelow}
+use Rattle.broker_store.specs.declared.account.Account.{Account}
+use Rattle.broker_store.specs.Confirms.{ledger_of, AreBelow}
 
 -- what was published, in its order (AMQP 0-9-1, basic.publish)
 abbrev pub publications : List Entry → List Publication

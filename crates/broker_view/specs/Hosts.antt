@@ -8,7 +8,7 @@ use Rattle.fed_journal.specs.declared.entry.Entry.TheVariants.{Published}
 use Rattle.fed_journal.specs.Copies.{IsFitting, copy_count, publication_of}
 use Rattle.fed_journal.specs.Names.{same_text}
 use Rattle.fed_journal.specs.Configuration.{is_broker}
-use Rattle.mini_broker.specs.Confirms.{AreBelow}
+use Rattle.broker_store.specs.Confirms.{AreBelow}
 use Rattle.mini_broker.specs.Record.{with_entered}
 use Rattle.mini_broker.specs.Vhosts.{bare}
 use Rattle.broker_view.specs.declared.host.Host.{Host}

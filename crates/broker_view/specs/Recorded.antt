@@ -7,7 +7,7 @@ use Rattle.fed_journal.specs.declared.entry.Entry.{Entry}
 use Rattle.fed_journal.specs.declared.entry.Entry.TheVariants.{MadeQueue, MadeExchange, GoneQueue, Bound, Unbound, Published, Flushed, Took, Settled, Consumed, Cancelled, Delivered, Acked, Rejected, Requeued, Purged, Closed}
 use Rattle.fed_journal.specs.Names.{same_text, same_place}
 use Rattle.fed_journal.specs.Routes.{bound, unbound}
-use Rattle.mini_broker.specs.declared.mailbox.Sweep.TheVariants as sweeps
+use Rattle.broker_store.specs.declared.mailbox.Sweep.TheVariants as sweeps
 use Rattle.mini_broker.specs.State.{VhostState}
 use Rattle.mini_broker.specs.Declare.{with_queue, with_exchange}
 use Rattle.mini_broker.specs.Bind.{with_routing}

@@ -13,9 +13,9 @@ use Rattle.fed_journal.specs.declared.entry.Entry.TheVariants.{GoneQueue, Publis
 use Rattle.fed_journal.specs.Copies.{is_lasting}
 use Rattle.fed_journal.specs.Messages.{is_persistent}
 use Rattle.fed_journal.specs.Names.{same_text, same_place}
-use Rattle.mini_broker.specs.declared.account.Account.{Account}
-use Rattle.mini_broker.specs.Confirms.{all_ledgers, its_ledger, opened, all_left}
-use Rattle.mini_broker.specs.Queues.{queue_of}
+use Rattle.broker_store.specs.declared.account.Account.{Account}
+use Rattle.broker_store.specs.Confirms.{all_ledgers, its_ledger, opened, all_left}
+use Rattle.broker_store.specs.Queues.{queue_of}
 use Rattle.mini_broker.specs.State.{VhostState}
 use Rattle.broker_view.specs.View.{rows_in}
 

@@ -17,10 +17,10 @@ use Rattle.fed_journal.specs.Holders as holders
 use Rattle.fed_journal.specs.Copies.{Standing, Ready, Held, publication_of, copy_count, entered, is_gone, is_home, standing}
 use Rattle.fed_journal.specs.Consumers as journal
 use Rattle.amqp_props.specs.declared.message.Message.{Message}
-use Rattle.mini_broker.specs.declared.consumer.Consumer.{Consumer}
-use Rattle.mini_broker.specs.Consumers.{is_client, is_consumer}
-use Rattle.mini_broker.specs.Queues.{Named, queue_of, AreAbove}
-use Rattle.mini_broker.specs.Exchanges.{shape_of}
+use Rattle.broker_store.specs.declared.consumer.Consumer.{Consumer}
+use Rattle.broker_store.specs.Consumers.{is_client, is_consumer}
+use Rattle.broker_store.specs.Queues.{Named, queue_of, AreAbove}
+use Rattle.broker_store.specs.Exchanges.{shape_of}
 use Rattle.mini_broker.specs.Consume.{consumer_of}
 use Rattle.mini_broker.specs.State.{VhostState, AreRouted}
 

@@ -12,7 +12,8 @@ use crate::host::{Host, record};
 use crate::run::Run;
 use amqp_props::Text;
 use fed_journal::entry::Entry;
-use mini_broker::{Confirms, Vhost};
+use broker_store::Confirms;
+use mini_broker::Vhost;
 use std::alloc::{AllocError, Global};
 
 /// The virtual hosts of the brokers, and the links in the order in which they first took a copy.

@@ -11,7 +11,8 @@ use crate::tell::tell;
 use amqp_props::Text;
 use fed_journal::entry::{Entry, Publication};
 use fed_journal::place::Place;
-use mini_broker::{Confirms, Vhost};
+use broker_store::Confirms;
+use mini_broker::Vhost;
 use queue_core::Holder;
 use std::alloc::{AllocError, Global};
 

@@ -3,8 +3,8 @@
 ghost use Rattle.std.specs.Prelude.{◌≡◌, ◌+◌, ◌<◌, ◌^◌, IfOk, OnOk, length};
 ghost use Rattle.std.specs.Option.{option_map};
 ghost use Rattle.fed_journal.specs.Copies.{is_lasting as is_lasting_queue, IsFitting};
-ghost use Rattle.mini_broker.specs.Confirms.{AreBelow};
-ghost use Rattle.mini_broker.specs.Queues.{queue_of};
+ghost use Rattle.broker_store.specs.Confirms.{AreBelow};
+ghost use Rattle.broker_store.specs.Queues.{queue_of};
 ghost use Rattle.broker_view.specs.Hosts.{told_at, IsTellable};
 ghost use Rattle.broker_view.specs.Told.{lasting_from, must_wait, with_publication};
 
@@ -12,7 +12,8 @@ use crate::host::{Host, is_at};
 use amqp_props::{QueueOptions, Text};
 use fed_journal::entry::{Entry, Publication, Publisher};
 use fed_journal::message::is_persistent;
-use mini_broker::{Confirms, Vhost};
+use broker_store::Confirms;
+use mini_broker::Vhost;
 use queue_core::CopyNo;
 use std::alloc::{AllocError, Global};
 

@@ -48,13 +48,6 @@ impl Ledger {
         Ok(())
     }
 
-    /// The copy was stored, so no publication waits for it any more.
-    pub fn stored(&mut self, copy: u64)
-        ensures { self.new ≡ released copy self.old }
-    {
-        release_all(&mut self.publications, copy);
-    }
-
     /// Every copy was stored, so no publication waits for anything.
     pub fn flushed(&mut self)
         ensures { self.new ≡ all_stored self.old }
@@ -62,7 +55,7 @@ impl Ledger {
         forget_all(&mut self.publications);
     }
 
-    /// The copy left its queue in another way than loss, so no publication waits for it any more.
+    /// The copy was stored, or left its queue in another way than loss, so no publication waits for it any more.
     pub fn left(&mut self, copy: u64)
         ensures { self.new ≡ released copy self.old }
     {
@@ -145,53 +138,4 @@ fn remove(publications: &mut Vec<Publication>, number: u64)
     ensures { publications.new.items ≡ without number publications.old.items }
 {
     publications.retain(|publication| publication.number() != number);
-}
-
-#[cfg(test)]
-mod tests {
-    use super::*;
-    use std::test::Fail;
-
-    /// The copy that a shovel made is stored by the flush, and then its publication is confirmed.
-    #[test]
-    fn one_shovel_one_message(rt: HostRuntime) -> Result<(), Fail> {
-        let mut ledger = Ledger::new(rt.alloc());
-        ledger.open(1, &[])?;
-        assert_eq!(rt; ledger.next_ready(), Some(1));
-        assert!(rt; ledger.answered(1));
-        ledger.open(2, &[2])?;
-        assert_eq!(rt; ledger.next_ready(), None);
-        ledger.stored(2);
-        assert_eq!(rt; ledger.next_ready(), Some(2));
-        assert!(rt; ledger.answered(2));
-        assert!(rt; !ledger.answered(2));
-        Ok(())
-    }
-
-    /// A publication into two queues waits for each copy; one was stored, and one was acknowledged before.
-    #[test]
-    fn stored_or_released(rt: HostRuntime) -> Result<(), Fail> {
-        let mut ledger = Ledger::new(rt.alloc());
-        ledger.open(1, &[1, 2])?;
-        ledger.left(2);
-        assert_eq!(rt; ledger.next_ready(), None);
-        ledger.stored(1);
-        assert_eq!(rt; ledger.next_ready(), Some(1));
-        Ok(())
-    }
-
-    /// A flush stores the copies that every publication waits for.
-    #[test]
-    fn flush(rt: HostRuntime) -> Result<(), Fail> {
-        let mut ledger = Ledger::new(rt.alloc());
-        assert!(rt; ledger.is_empty());
-        ledger.open(1, &[1])?;
-        ledger.open(2, &[2, 3])?;
-        assert_eq!(rt; ledger.next_ready(), None);
-        ledger.flushed();
-        assert!(rt; ledger.answered(1));
-        assert_eq!(rt; ledger.next_ready(), Some(2));
-        assert!(rt; !ledger.is_empty());
-        Ok(())
-    }
 }

@@ -1,10 +1,8 @@
 -- Queues that go, and connections that end.
-use Rattle.std.proofs.Common.{◌≡◌, ℕ, ◌+◌, ◌==◌, Bool, true, false, cond, not, List, [], ◌∷◌, Some, String, string_bytes, is_some, refl, ap, sym, ◌∙◌, subst, map}
+use Rattle.std.proofs.Common.{◌≡◌, ℕ, ◌+◌, ◌==◌, Bool, true, false, cond, not, List, [], ◌∷◌, Some, is_some, refl, ap, sym, ◌∙◌}
 use Rattle.std.specs.Prelude.{◌&&◌, ◌||◌, filter}
-use Rattle.std.specs.List.{list_any, IsDistinct, AllByRecursion}
-use Rattle.std.specs.Map.{keys_of}
+use Rattle.std.specs.List.{list_any}
 use Rattle.std.specs.Str.{bytes_eq}
-use Rattle.std.specs.String.{string_eq}
 use Rattle.std.proofs.lemmas.Bool.{true≢false, false≢true}
 use Rattle.std.proofs.lemmas.Slice.Eq.{bytes_eq-Decides}
 use Rattle.std.proofs.lemmas.List.Elements.{All-filter}
@@ -14,14 +12,13 @@ use Rattle.route_core.specs.declared.object.Object.{Object}
 use Rattle.route_core.specs.Objects.{has, is_named, same_sort, sort_of, number_of, rises}
 use Rattle.route_core.specs.Routing.{Routing, without_object}
 use Rattle.client_rules.specs.declared.client.Client.{Client}
-use Rattle.mini_broker.specs.Mail.{released_from}
+use Rattle.broker_store.specs.Mail.{released_from}
 use Rattle.amqp_props.specs.declared.message.Message.{Message}
-use Rattle.mini_broker.specs.Queues.{Named, named, queue_of, all_changed, with_mail}
-use Rattle.mini_broker.specs.Exchanges.{NamedShape}
-use Rattle.mini_broker.specs.State.{AreRouted, SameNames}
-use Rattle.mini_broker.specs.Close.{freed_from, others, is_owned, owned_names, StandInTurn}
-use Rattle.mini_broker.proofs.NameLemmas.{either_way, stands_mapped}
-use Rattle.mini_broker.proofs.QueueLemmas.{Entries}
+use Rattle.broker_store.specs.Queues.{Named, queue_of, all_changed, with_mail, SameNames, others, StandInTurn}
+use Rattle.broker_store.specs.Exchanges.{NamedShape}
+use Rattle.mini_broker.specs.State.{AreRouted}
+use Rattle.mini_broker.specs.Close.{freed_from}
+use Rattle.broker_store.proofs.NameLemmas.{stands_mapped}
 
 and_false : (a : Bool) → (a && false) ≡ false
 and_false true = refl
@@ -127,33 +124,3 @@ pub turn_same : {M : Type 0} (names : List (List ℕ)) (was now : List (Named M)
 turn_same [] was now same h = tt
 turn_same (name ∷ names) was now same h =
     (same name ∙ h.0, turn_same names (others name was) (others name now) (λ other. stands_others other name now ∙ ap (λ b. b && not (bytes_eq other name)) (same other) ∙ sym (stands_others other name was)) h.1)
-
-turn_more : {M : Type 0} (names : List (List ℕ)) (q : Named M) (queues : List (Named M)) → StandInTurn names queues → StandInTurn names (q ∷ queues)
-turn_more [] q queues h = tt
-turn_more (name ∷ names) q queues h = (
-  elim (bytes_eq name q.0) as (λ b. is_some (cond b (Some q.1) (queue_of name queues)) ≡ true) [ true ↦ refl | false ↦ h.0 ],
-  elim (bytes_eq q.0 name) as (λ b. StandInTurn names (cond (not b) (q ∷ others name queues) (others name queues))) [ true ↦ h.1 | false ↦ turn_more names q (others name queues) h.1 ],
-)
-
-itself : (name : List ℕ) → bytes_eq name name ≡ true
-itself name = (bytes_eq-Decides name name).1 refl
-
-all_others : {Z : Type 0} (name : List ℕ) (es : Entries Z) → AllByRecursion (λ (key : String Z). bytes_eq name (string_bytes key) ≡ false) (keys_of es) → others name (named es) ≡ named es
-all_others name [] apart = refl
-all_others name (e ∷ es) apart =
-    ap (λ b. cond (not b) ((string_bytes e.0, e.1) ∷ others name (named es)) (others name (named es))) (either_way (string_bytes e.0) name ∙ apart.0)
-    ∙ ap (λ rest. (string_bytes e.0, e.1) ∷ rest) (all_others name es apart.1)
-
--- no two queues of the table have one name
-pub owned_stand : {Z : Type 0} (connection : ℕ) (es : Entries Z) → IsDistinct string_eq (keys_of es) → StandInTurn (owned_names connection (named es)) (named es)
-unfolding IsDistinct
-owned_stand connection [] distinct = tt
-owned_stand connection (e ∷ es) distinct =
-    let rest = owned_stand connection es distinct.1 in
-    elim (is_owned connection (string_bytes e.0, e.1)) as (λ b. StandInTurn (map (λ q. q.0) (cond b ((string_bytes e.0, e.1) ∷ filter (is_owned connection) (named es)) (filter (is_owned connection) (named es)))) (named (e ∷ es))) [
-      | true ↦ (
-        ap (λ b. is_some (cond b (Some e.1) (queue_of (string_bytes e.0) (named es)))) (itself (string_bytes e.0)),
-        subst (StandInTurn (owned_names connection (named es))) (sym (ap (λ b. cond (not b) ((string_bytes e.0, e.1) ∷ others (string_bytes e.0) (named es)) (others (string_bytes e.0) (named es))) (itself (string_bytes e.0)) ∙ all_others (string_bytes e.0) es distinct.0)) rest,
-      )
-      | false ↦ turn_more (owned_names connection (named es)) (string_bytes e.0, e.1) (named es) rest
-    ]

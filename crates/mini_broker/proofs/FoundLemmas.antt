@@ -8,12 +8,12 @@ use Rattle.queue_core.specs.declared.rows.Row.{Row}
 use Rattle.client_rules.specs.declared.client.Client.{Client}
 use Rattle.mini_broker.specs.declared.fault.ClientFault.{ClientFault}
 use Rattle.mini_broker.specs.declared.fault.ClientFault.TheVariants.{Refused}
-use Rattle.mini_broker.specs.declared.standing.StandingQueue.{StandingQueue}
+use Rattle.broker_store.specs.declared.standing.StandingQueue.{StandingQueue}
 use Rattle.mini_broker.specs.Declare.{declared_again}
 use Rattle.client_rules.specs.Owners.{is_anothers}
 use Rattle.client_rules.specs.Alike.{same_options}
 use Rattle.client_rules.specs.Names.{is_refused_queue}
-use Rattle.mini_broker.specs.Queues.{Standing, bare_queue}
+use Rattle.broker_store.specs.Queues.{Standing, bare_queue}
 
 abbrev again : Client → QueueOptions → StandingQueue (List Row) → Result Bool ClientFault
 again who options queue = cond (is_anothers who queue.owner) (Err (Refused 405)) (cond (same_options queue.options options) (Ok false) (Err (Refused 406)))

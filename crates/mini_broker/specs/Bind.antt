@@ -11,8 +11,8 @@ use Rattle.mini_broker.specs.declared.fault.ClientFault.{ClientFault}
 use Rattle.mini_broker.specs.declared.fault.ClientFault.TheVariants.{Refused}
 use Rattle.client_rules.specs.Names.{is_unbindable}
 use Rattle.mini_broker.specs.Declare.{is_locked}
-use Rattle.mini_broker.specs.Queues.{queue_of}
-use Rattle.mini_broker.specs.Exchanges.{shape_of}
+use Rattle.broker_store.specs.Queues.{queue_of}
+use Rattle.broker_store.specs.Exchanges.{shape_of}
 use Rattle.mini_broker.specs.State.{VhostState}
 
 abbrev pub stands_as : Sort → List ℕ → VhostState → Bool

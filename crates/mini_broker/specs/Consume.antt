@@ -1,15 +1,14 @@
 -- Clients begin and end to consume from a queue (AMQP 0-9-1, basic.consume, basic.cancel).
-use Rattle.std.specs.Prelude.{ℕ, ◌+◌, List, ◌++◌, ◌∷◌, [], Bool, false, not, if◌then◌else◌, Option, Some, None, is_some, unwrap_or, length, position, find, filter}
-use Rattle.std.specs.List.{list_any}
+use Rattle.std.specs.Prelude.{ℕ, ◌+◌, List, ◌++◌, ◌∷◌, [], Bool, false, not, if◌then◌else◌, Option, Some, None, is_some, find, filter}
 use Rattle.queue_core.specs.declared.rows.Holder.{Holder}
 use Rattle.client_rules.specs.Names.{is_reserved}
 use Rattle.client_rules.specs.declared.client.Client.{Client}
-use Rattle.mini_broker.specs.declared.consumer.Consumer.{Consumer}
+use Rattle.broker_store.specs.declared.consumer.Consumer.{Consumer}
 use Rattle.mini_broker.specs.declared.fault.ClientFault.{ClientFault}
 use Rattle.mini_broker.specs.declared.fault.ClientFault.TheVariants.{Refused}
-use Rattle.mini_broker.specs.Consumers.{is_client, is_consumer}
+use Rattle.broker_store.specs.Consumers.{is_consumer, client_number, registered}
 use Rattle.mini_broker.specs.Declare.{is_locked}
-use Rattle.mini_broker.specs.Queues.{Standing, queue_of}
+use Rattle.broker_store.specs.Queues.{Standing, queue_of}
 use Rattle.mini_broker.specs.State.{VhostState}
 
 -- NOT_FOUND (404) for a queue that isn't there, RESOURCE_LOCKED (405) for another's (AMQP 0-9-1, 1.2)
@@ -31,13 +30,6 @@ or_tag_in_use (Some fault) used = Some fault
 
 abbrev pub consume_refusal : Client → List ℕ → List ℕ → VhostState → Option ClientFault
 consume_refusal who name tag v = or_tag_in_use (queue_refusal who name v) (is_some (consumer_of who tag v))
-
--- a client is numbered when it first consumes or gets
-abbrev pub client_number : Client → List Client → ℕ
-client_number who clients = unwrap_or (position (is_client who) clients) (length clients)
-
-abbrev pub registered : Client → List Client → List Client
-registered who clients = if list_any (is_client who) clients then clients else clients ++ who ∷ []
 
 -- a consumer's copies are told from those of all other consumers, also of one that had its tag before
 abbrev pub holder_for : Client → ℕ → VhostState → Holder

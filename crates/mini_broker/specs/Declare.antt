@@ -7,12 +7,12 @@ use Rattle.client_rules.specs.declared.client.Client.{Client}
 use Rattle.client_rules.specs.declared.client.ExchangeShape.{ExchangeShape}
 use Rattle.mini_broker.specs.declared.fault.ClientFault.{ClientFault}
 use Rattle.mini_broker.specs.declared.fault.ClientFault.TheVariants.{Refused}
-use Rattle.mini_broker.specs.Mail.{empty}
+use Rattle.broker_store.specs.Mail.{empty}
 use Rattle.client_rules.specs.Alike.{same_options, same_shape}
 use Rattle.client_rules.specs.Owners.{owner_of, is_anothers}
 use Rattle.client_rules.specs.Names.{is_refused_exchange, is_refused_queue}
-use Rattle.mini_broker.specs.Queues.{Standing, queue_of}
-use Rattle.mini_broker.specs.Exchanges.{shape_of}
+use Rattle.broker_store.specs.Queues.{Standing, queue_of}
+use Rattle.broker_store.specs.Exchanges.{shape_of}
 use Rattle.mini_broker.specs.State.{VhostState}
 
 -- another connection has the queue to itself (AMQP 0-9-1, queue.declare: exclusive)

@@ -5,14 +5,15 @@ use Rattle.amqp_props.specs.declared.message.Message.{Message}
 use Rattle.queue_core.specs.declared.rows.Holder.{Holder}
 use Rattle.queue_core.specs.Rows.{is_held_by}
 use Rattle.client_rules.specs.declared.client.Client.{Client}
-use Rattle.mini_broker.specs.declared.consumer.Consumer.{Consumer}
+use Rattle.broker_store.specs.declared.consumer.Consumer.{Consumer}
 use Rattle.mini_broker.specs.declared.deliver.Delivered.{Delivered}
 use Rattle.mini_broker.specs.declared.fault.ClientFault.{ClientFault}
 use Rattle.mini_broker.specs.declared.fault.ClientFault.TheVariants.{NoConsumer, Busy, Empty}
-use Rattle.mini_broker.specs.declared.mailbox.CopyMessage.{CopyMessage}
-use Rattle.mini_broker.specs.Mail.{given}
-use Rattle.mini_broker.specs.Queues.{Named, queue_of, first_in, changed, with_mail}
-use Rattle.mini_broker.specs.Consume.{consumer_of, queue_refusal, registered, holder_for}
+use Rattle.broker_store.specs.declared.mailbox.CopyMessage.{CopyMessage}
+use Rattle.broker_store.specs.Mail.{given}
+use Rattle.broker_store.specs.Queues.{Named, queue_of, first_in, changed, with_mail}
+use Rattle.mini_broker.specs.Consume.{consumer_of, queue_refusal, holder_for}
+use Rattle.broker_store.specs.Consumers.{registered}
 use Rattle.mini_broker.specs.Bind.{unless}
 use Rattle.mini_broker.specs.State.{VhostState}
 

@@ -1,17 +1,15 @@
 -- A message is published, and a copy enters each queue that it reaches (AMQP 0-9-1, basic.publish).
-use Rattle.std.specs.Prelude.{ℕ, ◌+◌, List, [], ◌∷◌, if◌then◌else◌, Option, Some, None, Result, Ok, Err}
+use Rattle.std.specs.Prelude.{ℕ, List, [], ◌∷◌, if◌then◌else◌, Option, Some, None, Result, Ok, Err}
 use Rattle.std.specs.Str.{bytes_eq}
 use Rattle.amqp_props.specs.declared.message.Message.{Message}
 use Rattle.route_core.specs.Routes.{routed_names}
-use Rattle.route_core.specs.Walks.{publish}
+use Rattle.route_core.specs.Walks.{publish, headers_of}
 use Rattle.client_rules.specs.Names.{is_reserved}
 use Rattle.client_rules.specs.declared.client.ExchangeShape.{ExchangeShape}
-use Rattle.fed_journal.specs.Messages.{headers_of}
 use Rattle.mini_broker.specs.declared.fault.ClientFault.{ClientFault}
 use Rattle.mini_broker.specs.declared.fault.ClientFault.TheVariants.{Refused}
-use Rattle.mini_broker.specs.Mail.{entered}
-use Rattle.mini_broker.specs.Queues.{Named, changed, with_mail}
-use Rattle.mini_broker.specs.Exchanges.{shape_of}
+use Rattle.broker_store.specs.Exchanges.{shape_of}
+use Rattle.broker_store.specs.Queues.{all_entered}
 use Rattle.mini_broker.specs.State.{VhostState}
 
 -- NOT_FOUND (404) for an exchange that isn't there, ACCESS_REFUSED (403) for an internal one (AMQP 0-9-1, basic.publish)
@@ -28,11 +26,6 @@ publish_refusal exchange v =
 -- the queues that it reaches, in the order of their making (AMQP 0-9-1, 3.1.3 "Exchange Types")
 abbrev pub reached : Message → VhostState → List (List ℕ)
 reached m v = routed_names v.routing (publish m.exchange m.key (headers_of m))
-
--- each of the queues gets a copy, numbered in their order (AMQP 0-9-1, 3.1.3)
-abbrev pub all_entered : {M : Type 0} → List (List ℕ) → ℕ → M → List (Named M) → List (Named M)
-all_entered [] number m queues = queues
-all_entered (name ∷ names) number m queues = all_entered names (number + 1) m (changed name (with_mail (entered number m)) queues)
 
 abbrev pub with_copies : Message → ℕ → VhostState → VhostState
 with_copies m number v = record v { queues = all_entered (reached m v) number m v.queues }

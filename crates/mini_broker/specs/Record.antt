@@ -4,11 +4,11 @@ use Rattle.std.specs.Option.{option_map_or}
 use Rattle.amqp_props.specs.declared.message.Message.{Message}
 use Rattle.queue_core.specs.declared.rows.Holder.{Holder}
 use Rattle.client_rules.specs.declared.client.Client.{Client}
-use Rattle.mini_broker.specs.Mail.{handed, left, released}
-use Rattle.mini_broker.specs.Queues.{all_changed, with_mail}
-use Rattle.mini_broker.specs.Consume.{consumer_of, registered, holder_for}
+use Rattle.broker_store.specs.Mail.{handed, left, released}
+use Rattle.broker_store.specs.Queues.{all_changed, with_mail, all_entered}
+use Rattle.mini_broker.specs.Consume.{consumer_of, holder_for}
+use Rattle.broker_store.specs.Consumers.{registered}
 use Rattle.mini_broker.specs.Deliver.{handed_over}
-use Rattle.mini_broker.specs.Publish.{all_entered}
 use Rattle.mini_broker.specs.State.{VhostState}
 
 -- a message's copies enter these queues, numbered in their order (AMQP 0-9-1, basic.publish)

@@ -2,12 +2,12 @@
 use Rattle.std.specs.Prelude.{ℕ, List, Bool, false, Option, Some, None, Result, Ok, position}
 use Rattle.client_rules.specs.declared.client.Client.{Client}
 use Rattle.mini_broker.specs.declared.fault.ClientFault.{ClientFault}
-use Rattle.mini_broker.specs.declared.mailbox.Sweep.{Sweep}
-use Rattle.mini_broker.specs.declared.mailbox.Sweep.TheVariants.{Leave, Release}
-use Rattle.mini_broker.specs.Mail.{swept, purged}
-use Rattle.mini_broker.specs.Queues.{Named, is_held_in, all_changed, changed, with_mail, ready_count}
+use Rattle.broker_store.specs.declared.mailbox.Sweep.{Sweep}
+use Rattle.broker_store.specs.declared.mailbox.Sweep.TheVariants.{Leave, Release}
+use Rattle.broker_store.specs.Mail.{swept, purged}
+use Rattle.broker_store.specs.Queues.{Named, is_held_in, all_changed, changed, with_mail, ready_count}
 use Rattle.mini_broker.specs.Bind.{unless}
-use Rattle.mini_broker.specs.Consumers.{is_client}
+use Rattle.broker_store.specs.Consumers.{is_client}
 use Rattle.mini_broker.specs.Consume.{queue_refusal}
 use Rattle.mini_broker.specs.State.{VhostState}
 

@@ -6,9 +6,9 @@ use Rattle.route_core.specs.Objects.{has}
 use Rattle.route_core.specs.Routing.{Routing, IsNext}
 use Rattle.amqp_props.specs.declared.message.Message.{Message}
 use Rattle.client_rules.specs.declared.client.Client.{Client}
-use Rattle.mini_broker.specs.declared.consumer.Consumer.{Consumer}
-use Rattle.mini_broker.specs.Queues.{Named, queue_of}
-use Rattle.mini_broker.specs.Exchanges.{NamedShape, shape_of}
+use Rattle.broker_store.specs.declared.consumer.Consumer.{Consumer}
+use Rattle.broker_store.specs.Queues.{Named, queue_of}
+use Rattle.broker_store.specs.Exchanges.{NamedShape, shape_of}
 
 -- Bindings; queues with their copies and exchanges in the order of making; consumers in the order in which they began
 -- (AMQP 0-9-1, 3.1 "The AMQ model"); the clients that consumed or got here, in the order in which they first did;
@@ -27,7 +27,3 @@ pub record AreRouted (routing : Routing) (queues : List (Named Message)) (exchan
   pub queue_names : (name : List ℕ) → has sorts.Queue name routing.objects ≡ is_some (queue_of name queues)
   pub exchange_names : (name : List ℕ) → has sorts.Exchange name routing.objects ≡ is_some (shape_of name exchanges)
   pub numbers : IsNext (nodes.Queue made) routing
-
--- queues of the same names
-abbrev pub SameNames : {M : Type 0} → List (Named M) → List (Named M) → Type 0
-SameNames was now = (name : List ℕ) → is_some (queue_of name now) ≡ is_some (queue_of name was)

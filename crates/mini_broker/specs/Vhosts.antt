@@ -2,7 +2,7 @@
 use Rattle.std.specs.Prelude.{ℕ, List, [], count_by}
 use Rattle.std.specs.Str.{bytes_eq}
 use Rattle.route_core.specs.Routing.{predeclared}
-use Rattle.mini_broker.specs.declared.consumer.Consumer.{Consumer}
+use Rattle.broker_store.specs.declared.consumer.Consumer.{Consumer}
 use Rattle.mini_broker.specs.State.{VhostState}
 
 -- the predeclared exchanges alone (AMQP 0-9-1, 3.1.3)

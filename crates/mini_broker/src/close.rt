@@ -4,12 +4,10 @@ ghost use Rattle.std.specs.Prelude.{◌≡◌, ◌≤◌, true, false, not, is_s
 ghost use Rattle.route_core.specs.declared.object.Sort.TheVariants as sorts;
 ghost use Rattle.route_core.specs.Objects.{has};
 ghost use Rattle.route_core.specs.Routing.{without_object};
-ghost use Rattle.mini_broker.specs.Queues.{queue_of};
-ghost use Rattle.mini_broker.specs.Close.{is_on, consumes_from, freed_from, disconnected, others, without_queue, owned_names, closed, StandInTurn};
+ghost use Rattle.broker_store.specs.Queues.{queue_of, others, owned_names, StandInTurn};
+ghost use Rattle.mini_broker.specs.Close.{is_on, consumes_from, freed_from, disconnected, without_queue, closed};
 
-use crate::consumer::Consumer;
-use crate::mailbox::Sweep;
-use crate::queues::Queues;
+use broker_store::{Consumer, Queues, Sweep};
 use crate::vhost::Vhost;
 use amqp_props::Text;
 use client_rules::Client;

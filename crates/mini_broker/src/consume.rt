@@ -3,12 +3,11 @@
 ghost use Rattle.std.specs.Prelude.{◌≡◌, ◌≢◌, ◌+◌, ◌<◌, ◌++◌, ◌∷◌, [], not, is_some, Some, Ok, IfOk, OnOk, OnErr, filter, vec_len, vec_capacity};
 ghost use Rattle.std.specs.Option.{option_copied};
 ghost use Rattle.mini_broker.specs.Answers.{IsAnswer};
-ghost use Rattle.mini_broker.specs.Consumers.{is_consumer as is_this_consumer};
+ghost use Rattle.broker_store.specs.Consumers.{is_consumer as is_this_consumer, registered};
 ghost use Rattle.mini_broker.specs.Bind.{unless};
-ghost use Rattle.mini_broker.specs.Consume.{refusal_at as refusal_of_queue, queue_refusal as refusal_by_queue, consumer_of, consume_refusal as refusal_to_consume, registered, new_consumer as consumer_by, with_consumer, without_consumer};
+ghost use Rattle.mini_broker.specs.Consume.{refusal_at as refusal_of_queue, queue_refusal as refusal_by_queue, consumer_of, consume_refusal as refusal_to_consume, new_consumer as consumer_by, with_consumer, without_consumer};
 
-use crate::clients::Clients;
-use crate::consumer::{Consumer, find_consumer, is_consumer};
+use broker_store::{Clients, Consumer, find_consumer, is_consumer};
 use crate::declare::is_locked;
 use crate::fault::ClientFault;
 use crate::vhost::Vhost;

@@ -5,18 +5,15 @@ ghost use Rattle.std.specs.Str.{bytes_eq};
 ghost use Rattle.route_core.specs.declared.object.Sort.TheVariants as sorts;
 ghost use Rattle.route_core.specs.declared.object.Node.TheVariants as nodes;
 ghost use Rattle.route_core.specs.Routing.{stands, IsNext, with_object};
-ghost use Rattle.mini_broker.specs.Answers.{IsAnswer};
-ghost use Rattle.mini_broker.specs.Mail.{empty};
-ghost use Rattle.mini_broker.specs.Queues.{queue_of, emptied};
-ghost use Rattle.mini_broker.specs.Exchanges.{shape_of, declared_shape};
 ghost use Rattle.client_rules.specs.Owners.{owner_of as owner_by};
+ghost use Rattle.mini_broker.specs.Answers.{IsAnswer};
+ghost use Rattle.broker_store.specs.Mail.{empty};
+ghost use Rattle.broker_store.specs.Queues.{queue_of, emptied};
+ghost use Rattle.broker_store.specs.Exchanges.{shape_of, declared_shape};
 ghost use Rattle.mini_broker.specs.Declare.{is_locked as is_queue_locked, declared_again as queue_again, declare_answer, with_queue, declared_exchange_again as exchange_again, declare_exchange_answer, with_exchange};
 
-use crate::exchanges::Exchanges;
+use broker_store::{Exchanges, Mailbox, Queues, StandingQueue};
 use crate::fault::ClientFault;
-use crate::mailbox::Mailbox;
-use crate::queues::Queues;
-use crate::standing::StandingQueue;
 use crate::vhost::Vhost;
 use amqp_props::{QueueOptions, Text};
 use client_rules::{

@@ -3,15 +3,13 @@
 ghost use Rattle.std.specs.Prelude.{◌≡◌, false, Some, IsSome, IfOk, OnOk, OnErr};
 ghost use Rattle.std.specs.Option.{option_map};
 ghost use Rattle.mini_broker.specs.Answers.{IsAnswer};
-ghost use Rattle.mini_broker.specs.Queues.{ready_in};
-ghost use Rattle.mini_broker.specs.State.{SameNames};
-ghost use Rattle.mini_broker.specs.Consume.{consumer_of, registered, client_number as number_of_client};
+ghost use Rattle.broker_store.specs.Queues.{ready_in, SameNames};
+ghost use Rattle.mini_broker.specs.Consume.{consumer_of};
+ghost use Rattle.broker_store.specs.Consumers.{registered, client_number as number_of_client};
 ghost use Rattle.mini_broker.specs.Deliver.{offer_of, offered, held_count as count_of_held, is_busy as is_consumer_busy, deliver_to as delivered_to, deliver_answer, handed_over, with_delivered, get_answer, get_part as part_of_get, with_got};
 
-use crate::clients::Clients;
-use crate::consumer::{Consumer, find_consumer};
+use broker_store::{Clients, Consumer, Queues, find_consumer};
 use crate::fault::ClientFault;
-use crate::queues::Queues;
 use crate::vhost::Vhost;
 use amqp_props::{Message, Text};
 use client_rules::Client;

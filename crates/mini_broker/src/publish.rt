@@ -2,16 +2,14 @@
 
 ghost use Rattle.std.specs.Prelude.{◌≡◌, ◌≢◌, ◌+◌, ◌<◌, ◌≤◌, ◌^◌, Some, Ok, IfOk, OnOk, OnErr, length};
 ghost use Rattle.route_core.specs.Routes.{routed_names};
-ghost use Rattle.route_core.specs.Walks.{publish};
-ghost use Rattle.fed_journal.specs.Messages.{headers_of};
+ghost use Rattle.route_core.specs.Walks.{publish, headers_of};
 ghost use Rattle.mini_broker.specs.Answers.{IsAnswer};
 ghost use Rattle.mini_broker.specs.Bind.{unless};
-ghost use Rattle.mini_broker.specs.Queues.{AreAbove};
-ghost use Rattle.mini_broker.specs.State.{SameNames};
-ghost use Rattle.mini_broker.specs.Publish.{publish_refusal as refusal_to_publish, reached as names_reached, all_entered, with_copies, first_of, done};
+ghost use Rattle.broker_store.specs.Queues.{AreAbove, SameNames, all_entered};
+ghost use Rattle.mini_broker.specs.Publish.{publish_refusal as refusal_to_publish, reached as names_reached, with_copies, first_of, done};
 
+use broker_store::Queues;
 use crate::fault::ClientFault;
-use crate::queues::Queues;
 use crate::vhost::Vhost;
 use amqp_props::{Message, Text};
 use client_rules::is_reserved;

@@ -1,20 +1,16 @@
 //! What the journal records of a virtual host is done to it.
 
 ghost use Rattle.std.specs.Prelude.{◌≡◌, ◌+◌, ◌<◌, ◌^◌, Some, IfOk, OnOk, OnErr, length};
-ghost use Rattle.fed_journal.specs.Routes.{bound, unbound};
-ghost use Rattle.mini_broker.specs.Queues.{ready_in, AreAbove};
-ghost use Rattle.mini_broker.specs.State.{SameNames};
+ghost use Rattle.route_core.specs.Routing.{bound, unbound};
+ghost use Rattle.broker_store.specs.Queues.{ready_in, AreAbove, SameNames};
 ghost use Rattle.mini_broker.specs.Bind.{with_routing};
-ghost use Rattle.mini_broker.specs.Consume.{registered};
+ghost use Rattle.broker_store.specs.Consumers.{registered};
 ghost use Rattle.mini_broker.specs.Deliver.{handed_over};
 ghost use Rattle.mini_broker.specs.Record.{with_entered, holder_as as holder_of_client, with_handed, with_taken, with_settled, with_released};
 
-use crate::clients::Clients;
-use crate::consumer::find_consumer;
+use broker_store::{Clients, Queues, Sweep, find_consumer};
 use crate::deliver::hand_over;
-use crate::mailbox::Sweep;
 use crate::publish::enter_message;
-use crate::queues::Queues;
 use crate::settle::sweep_all;
 use crate::vhost::Vhost;
 use amqp_props::{Message, Text};

@@ -1,15 +1,13 @@
 //! Clients answer for what they hold, empty queues, and brokers store what they hold.
 
 ghost use Rattle.std.specs.Prelude.{◌≡◌, OnOk, OnErr};
-ghost use Rattle.mini_broker.specs.declared.mailbox.Sweep.TheVariants as sweeps;
-ghost use Rattle.mini_broker.specs.Mail.{swept, purged};
-ghost use Rattle.mini_broker.specs.Queues.{ready_count, changed, all_changed, with_mail, is_held_in};
-ghost use Rattle.mini_broker.specs.State.{SameNames};
+ghost use Rattle.broker_store.specs.declared.mailbox.Sweep.TheVariants as sweeps;
+ghost use Rattle.broker_store.specs.Mail.{swept, purged};
+ghost use Rattle.broker_store.specs.Queues.{ready_count, changed, all_changed, with_mail, is_held_in, SameNames};
 ghost use Rattle.mini_broker.specs.Settle.{holds as client_holds, settled, requeued, purge_answer, with_purged, all_swept};
 
+use broker_store::{Queues, Sweep};
 use crate::fault::ClientFault;
-use crate::mailbox::Sweep;
-use crate::queues::Queues;
 use crate::vhost::Vhost;
 use client_rules::Client;
 use queue_core::CopyNo;

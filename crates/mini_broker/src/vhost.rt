@@ -3,17 +3,14 @@
 ghost use Rattle.std.specs.Prelude.{◌≡◌, IfOk};
 ghost use Rattle.std.specs.Option.{option_map, option_and_then};
 ghost use Rattle.route_core.specs.Bindings.{has_binding as is_bound};
-ghost use Rattle.mini_broker.specs.Queues.{queue_of, rows_of, ready_in, ready_count, copy_count};
+ghost use Rattle.broker_store.specs.Queues.{queue_of, rows_of, ready_in, ready_count, copy_count};
 ghost use Rattle.mini_broker.specs.Deliver.{held_count as count_of_held};
 ghost use Rattle.mini_broker.specs.Settle.{holds as client_holds};
-ghost use Rattle.mini_broker.specs.Exchanges.{shape_of};
+ghost use Rattle.broker_store.specs.Exchanges.{shape_of};
 ghost use Rattle.mini_broker.specs.Vhosts.{bare, consumer_count};
 
-use crate::clients::Clients;
-use crate::consumer::Consumer;
+use broker_store::{Clients, Consumer, Exchanges, Queues};
 use crate::deliver::held_count;
-use crate::exchanges::Exchanges;
-use crate::queues::Queues;
 use amqp_props::QueueOptions;
 use client_rules::{Client, ExchangeShape};
 use queue_core::{CopyNo, Holder, Row};

@@ -8,3 +8,4 @@ pub mod Routing
 pub mod SameBindings
 pub mod Spreading
 pub mod Walks
+pub mod Predeclared

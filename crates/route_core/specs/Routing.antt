@@ -1,5 +1,5 @@
 -- The exchanges, queues and bindings of a virtual host (AMQP 0-9-1, 3.1 "The AMQ model").
-use Rattle.std.specs.Prelude.{ℕ, Bool, true, not, ◌||◌, ◌&&◌, ◌≡◌, All, List, [], ◌∷◌, ◌++◌, filter, codes}
+use Rattle.std.specs.Prelude.{ℕ, Bool, true, not, ◌||◌, ◌&&◌, ◌≡◌, All, List, [], ◌∷◌, ◌++◌, filter, codes, if◌then◌else◌}
 use Rattle.std.specs.Str.{bytes_eq}
 use Rattle.field_tables.specs.Fields.{Pairs}
 use Rattle.amqp_props.specs.declared.link.ExchangeKind.TheVariants as kinds
@@ -10,7 +10,7 @@ use Rattle.route_core.specs.declared.object.Node.TheVariants as nodes
 use Rattle.route_core.specs.declared.object.Object.{Object}
 use Rattle.route_core.specs.declared.binding.Binding.{Binding}
 use Rattle.route_core.specs.Objects.{same_sort, is_named, has, number_of, rises}
-use Rattle.route_core.specs.Bindings.{is_same, leaves, ends_with}
+use Rattle.route_core.specs.Bindings.{is_same, leaves, ends_with, has_binding}
 
 -- Queues and exchanges in the order of their making, and bindings in the order of binding.
 pub record Routing : Type 0 where
@@ -68,3 +68,15 @@ bindings_from exchange r = filter (leaves exchange) r.bindings
 
 abbrev pub key_and_arguments : Binding → List ℕ × Pairs
 key_and_arguments b = (b.key, b.args)
+
+-- both ends of a binding stand (AMQP 0-9-1, queue.bind)
+abbrev pub has_ends : Binding → Routing → Bool
+has_ends b r = has sorts.Exchange b.source r.objects && has b.sort b.dest r.objects
+
+-- an equal binding isn't made again (AMQP 0-9-1, queue.bind: a duplicate is ignored)
+abbrev pub bound : Binding → Routing → Routing
+bound b r = if has_ends b r && not (has_binding b r.bindings) then with_binding b r else r
+
+-- a binding that isn't there isn't removed (AMQP 0-9-1, queue.unbind)
+abbrev pub unbound : Binding → Routing → Routing
+unbound b r = if has_binding b r.bindings then without_binding b r else r

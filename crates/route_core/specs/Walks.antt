@@ -1,11 +1,12 @@
 -- The queues that a message reaches: over exchanges and the bindings that match (AMQP 0-9-1, 3.1.3 "Exchange Types" and 3.1.4 "The Binding"; RabbitMQ's "Exchange to Exchange Bindings" and "Federated Exchanges").
-use Rattle.std.specs.Prelude.{◌≡◌, ◌≢◌, ℕ, ◌<◌, ◌≤◌, Bool, false, List, [], ◌∷◌, Option, Some, All, find, codes}
+use Rattle.std.specs.Prelude.{◌≡◌, ◌≢◌, ℕ, ◌<◌, ◌≤◌, Bool, false, List, [], ◌∷◌, Option, Some, None, All, find, codes}
 use Rattle.std.specs.List.{AllPairs, Contains, starts_with}
 use Rattle.std.specs.Prelude.{nat_eq}
 use Rattle.std.specs.Option.{option_map}
-use Rattle.field_tables.specs.Fields.{Pairs}
+use Rattle.field_tables.specs.Fields.{Pairs, no_pairs}
 use Rattle.amqp_props.specs.declared.link.ExchangeKind.{ExchangeKind}
 use Rattle.amqp_props.specs.declared.link.ExchangeKind.TheVariants as kinds
+use Rattle.amqp_props.specs.declared.message.Message.{Message}
 use Rattle.client_rules.specs.Names.{is_reserved}
 use Rattle.binding_match.specs.Topics.{words, Covers}
 use Rattle.binding_match.specs.Headers.{HeadersMatch}
@@ -27,6 +28,14 @@ pub record Publish : Type 0 where
 
 abbrev pub publish : List ℕ → List ℕ → Pairs → Publish
 publish exchange key headers = record { exchange = exchange; key = key; headers = headers }
+
+abbrev pub pairs_of : Option Pairs → Pairs
+pairs_of None = no_pairs
+pairs_of (Some pairs) = pairs
+
+-- the header fields of a message; one without headers has none (AMQP 0-9-1, class basic: headers)
+abbrev pub headers_of : Message → Pairs
+headers_of m = pairs_of m.props.headers
 
 -- Where a walk stands: at an exchange or a queue.
 pub record Stop : Type 0 where

@@ -15,6 +15,3 @@ pub use fault::RouteFault;
 pub use laws::rounds_are_walks;
 pub use object::{Node, Object, QueueNo, Sort};
 pub use router::Router;
-
-#[cfg(test)]
-mod tests;

@@ -1,5 +1,5 @@
 use Rattle.std.proofs.Common.{sym, ap, ◌∙◌}
-use Rattle.mini_broker.specs.Queues.{ready_in}
+use Rattle.broker_store.specs.Queues.{ready_in}
 use Rattle.mini_broker.specs.Record.{with_handed}
 use Rattle.broker_view.proofs.RecordLemmas.{ready-at, handed-as}
 use Rattle.broker_view.proofs.host.record_consumed.Goals as goal

@@ -1,8 +1,8 @@
 use Rattle.std.proofs.Common.{◌≡◌, Some, ap, ◌∙◌, is_some, subst}
 use Rattle.std.specs.Prelude.{IfSome}
-use Rattle.mini_broker.specs.Mail.{given}
-use Rattle.mini_broker.specs.Queues.{with_mail, queue_of, changed}
-use Rattle.mini_broker.proofs.NameLemmas.{stands_changed}
+use Rattle.broker_store.specs.Mail.{given}
+use Rattle.broker_store.specs.Queues.{with_mail, queue_of, changed}
+use Rattle.broker_store.proofs.NameLemmas.{stands_changed}
 use Rattle.mini_broker.proofs.deliver.hand_over.Goals as goal
 
 pub returns : goal.returns

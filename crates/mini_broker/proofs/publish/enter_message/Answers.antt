@@ -1,5 +1,5 @@
 use Rattle.std.proofs.Common.{ap, ◌∙◌, is_some}
-use Rattle.mini_broker.specs.Queues.{queue_of}
+use Rattle.broker_store.specs.Queues.{queue_of}
 use Rattle.mini_broker.proofs.PublishLemmas.{entered_names}
 use Rattle.mini_broker.proofs.publish.enter_message.Goals as goal
 

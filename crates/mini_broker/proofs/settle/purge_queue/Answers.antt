@@ -1,7 +1,7 @@
 use Rattle.std.proofs.Common.{ap, ◌∙◌, is_some}
-use Rattle.mini_broker.specs.Mail.{purged}
-use Rattle.mini_broker.specs.Queues.{with_mail, queue_of}
-use Rattle.mini_broker.proofs.NameLemmas.{stands_changed}
+use Rattle.broker_store.specs.Mail.{purged}
+use Rattle.broker_store.specs.Queues.{with_mail, queue_of}
+use Rattle.broker_store.proofs.NameLemmas.{stands_changed}
 use Rattle.mini_broker.proofs.settle.purge_queue.Goals as goal
 
 pub returns-clause-names : goal.returns-clause-names

@@ -1,7 +1,7 @@
 use Rattle.std.proofs.Common.{ap, ◌∙◌, is_some}
-use Rattle.mini_broker.specs.Mail.{swept}
-use Rattle.mini_broker.specs.Queues.{with_mail, queue_of}
-use Rattle.mini_broker.proofs.NameLemmas.{stands_mapped}
+use Rattle.broker_store.specs.Mail.{swept}
+use Rattle.broker_store.specs.Queues.{with_mail, queue_of}
+use Rattle.broker_store.proofs.NameLemmas.{stands_mapped}
 use Rattle.mini_broker.proofs.settle.sweep_all.Goals as goal
 
 pub returns-clause-names : goal.returns-clause-names

@@ -1,5 +1,5 @@
 use Rattle.std.proofs.Common.{ap, ◌∙◌}
-use Rattle.mini_broker.specs.Queues as queues
+use Rattle.broker_store.specs.Queues as queues
 use Rattle.broker_view.proofs.Questions.{first_ready-is}
 use Rattle.broker_view.proofs.run.Run.first_ready.Goals as goal
 

@@ -1,5 +1,5 @@
 use Rattle.std.proofs.Common.{ap, ◌∙◌}
-use Rattle.mini_broker.specs.Queues as queues
+use Rattle.broker_store.specs.Queues as queues
 use Rattle.broker_view.proofs.Questions.{ready_count-is}
 use Rattle.broker_view.proofs.run.Run.ready_count.Goals as goal
 

@@ -2,7 +2,7 @@ use Rattle.std.proofs.Common.{ℕ, Some, None, Err, cond, sym, ap, ◌∙◌}
 use Rattle.std.specs.Option.{option_map, option_copied}
 use Rattle.mini_broker.specs.declared.fault.ClientFault.TheVariants.{Refused}
 use Rattle.mini_broker.specs.Declare.{declare_answer, declared_again}
-use Rattle.mini_broker.specs.Queues.{queue_of, bare_queue}
+use Rattle.broker_store.specs.Queues.{queue_of, bare_queue}
 use Rattle.mini_broker.proofs.FoundLemmas.{answered}
 use Rattle.mini_broker.proofs.vhost.Vhost.declares_queue.Goals as goal
 

@@ -1,4 +1,4 @@
-use Rattle.mini_broker.proofs.NameLemmas.{routed_same}
+use Rattle.mini_broker.proofs.RoutedLemmas.{routed_same}
 use Rattle.mini_broker.proofs.CloseLemmas.{freed_names}
 use Rattle.mini_broker.proofs.vhost.Vhost.disconnect.Goals as goal
 

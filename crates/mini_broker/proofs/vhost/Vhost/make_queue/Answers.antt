@@ -1,4 +1,4 @@
-use Rattle.mini_broker.proofs.NameLemmas.{routed_queue}
+use Rattle.mini_broker.proofs.RoutedLemmas.{routed_queue}
 use Rattle.mini_broker.proofs.vhost.Vhost.make_queue.Goals as goal
 
 pub invariant_of-self-2 : goal.invariant_of-self-2

@@ -1,4 +1,4 @@
-use Rattle.mini_broker.proofs.NameLemmas.{bare_routed}
+use Rattle.mini_broker.proofs.RoutedLemmas.{bare_routed}
 use Rattle.mini_broker.proofs.vhost.Vhost.new.Goals as goal
 
 pub invariant_of-result : goal.invariant_of-result

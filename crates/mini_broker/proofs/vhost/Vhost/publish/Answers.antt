@@ -1,6 +1,6 @@
 use Rattle.std.proofs.Common.{sym, ap, subst}
 use Rattle.mini_broker.specs.State.{VhostState}
-use Rattle.mini_broker.specs.Queues.{AreAbove}
+use Rattle.broker_store.specs.Queues.{AreAbove}
 use Rattle.mini_broker.proofs.vhost.Vhost.publish.Goals as goal
 
 pub spread-requires-clause-above : goal.spread-requires-clause-above

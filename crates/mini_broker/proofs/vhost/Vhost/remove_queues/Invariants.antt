@@ -1,6 +1,7 @@
 -- What is left to be done leads to what all of it leads to.
 use Rattle.std.proofs.Common.{◌≡◌, drop, fold}
-use Rattle.mini_broker.specs.Close.{without_queue, StandInTurn}
+use Rattle.mini_broker.specs.Close.{without_queue}
+use Rattle.broker_store.specs.Queues.{StandInTurn}
 use Rattle.mini_broker.proofs.vhost.Vhost.remove_queues.Given as goal
 
 abbrev pub invariant-loop-name : goal.invariant-loop-name

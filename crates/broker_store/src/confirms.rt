@@ -1,0 +1,226 @@
+//! The confirms that a virtual host owes to sessions of links for what they published there.
+
+ghost use Rattle.std.specs.Prelude.{◌≡◌, ◌==◌, [], ◌∷◌, ◌++◌, OnOk, length, not, map, filter, find};
+ghost use Rattle.std.specs.Option.{option_copied};
+ghost use Rattle.std.specs.List.{list_any};
+ghost use Rattle.confirm_core.specs.Waits.{all_stored, released, without, ready_numbers, least};
+ghost use Rattle.broker_store.specs.Confirms.{is_of, ledger_of, all_ledgers, its_ledger, with_account, opened, all_left, AreBelow};
+ghost use Rattle.queue_core.specs.Rows.{is_ready};
+
+use crate::account::Account;
+use amqp_props::Text;
+use confirm_core::Ledger;
+use queue_core::{CopyNo, Hold, Row};
+use std::alloc::{AllocError, Global};
+use std::marker::Model;
+
+/// An account for each session that published here, in the order in which they first did.
+#[derive(Drop)]
+pub struct Confirms {
+    alloc: Global,
+    accounts: Vec<Account>,
+}
+
+impl Model for Confirms {
+    ghost use Rattle.std.specs.Prelude.{List};
+    ghost use Rattle.std.specs.Coded.{codes};
+    ghost use Rattle.broker_store.specs.declared.account.Account.{Account};
+    ghost use Rattle.broker_store.specs.contracts.account.Account as account;
+
+    ghost Value = { List Account };
+
+    ghost coded = { Prim.hlevel (codes, account.the_row.coded) };
+
+    ghost view = { λ c. c.accounts.items };
+}
+
+impl Confirms {
+    /// No accounts.
+    pub fn new(alloc: Global) -> Confirms
+        ensures { result ≡ [] }
+    {
+        Confirms {
+            alloc,
+            accounts: Vec::new(alloc),
+        }
+    }
+
+    /// The session published under this number, and waits for these copies.
+    ///
+    /// # Errors
+    ///
+    /// For want of memory; the accounts may then be changed.
+    pub fn open(
+        &mut self,
+        link: &Text,
+        session: u32,
+        number: u64,
+        waits: &[CopyNo],
+    ) -> Result<(), AllocError>
+        requires { AreBelow number self.old }
+        ensures { OnOk result (self.new ≡ opened link.now session number waits.now self.old) }
+    {
+        add_account(self.alloc, &mut self.accounts, link, session)?;
+        open_in(&mut self.accounts, link, session, number, waits)?;
+        Ok(())
+    }
+
+    /// All copies were stored, so no publication waits for anything.
+    pub fn flushed(&mut self)
+        ensures { self.new ≡ all_ledgers all_stored self.old }
+    {
+        store_all(&mut self.accounts);
+    }
+
+    /// The copy left its queue, so no publication waits for it any more.
+    pub fn left(&mut self, copy: CopyNo)
+        ensures { self.new ≡ all_ledgers (released copy) self.old }
+    {
+        leave(&mut self.accounts, copy);
+    }
+
+    /// The copies of a queue left it.
+    pub fn rows_left(&mut self, rows: &[Row])
+        ensures { self.new ≡ all_left (map (λ row. row.copy) rows.now) self.old }
+    {
+        leave_all(&mut self.accounts, rows);
+    }
+
+    /// The ready copies of a queue left it.
+    pub fn ready_left(&mut self, rows: &[Row])
+        ensures { self.new ≡ all_left (map (λ row. row.copy) (filter is_ready rows.now)) self.old }
+    {
+        leave_ready(&mut self.accounts, rows);
+    }
+
+    /// Whether the session awaits any confirm.
+    pub fn is_awaited(&self, link: &Text, session: u32) -> bool
+        ensures { result ≡ not (length (ledger_of link.now session self.now) == 0) }
+    {
+        match find_account(&self.accounts, link, session) {
+            Some(account) => !account.ledger.is_empty(),
+            None => false,
+        }
+    }
+
+    /// The least publication of the session that waits for nothing; None exactly where there is none.
+    pub fn next_ready(&self, link: &Text, session: u32) -> Option<u64>
+        ensures { result ≡ least (ready_numbers (ledger_of link.now session self.now)) }
+    {
+        find_account(&self.accounts, link, session)?
+            .ledger
+            .next_ready()
+    }
+
+    /// The publication was confirmed to the session.
+    pub fn answered(&mut self, link: &Text, session: u32, number: u64)
+        ensures { self.new ≡ its_ledger link.now session (without number) self.old }
+    {
+        answer(&mut self.accounts, link, session, number);
+    }
+}
+
+/// Whether nobody holds the copy.
+fn is_ready(row: &Row) -> bool
+    ensures { result ≡ is_ready row.now }
+{
+    row.hold == Hold::Ready
+}
+
+/// The session's account.
+fn find_account<'a>(accounts: &'a [Account], link: &Text, session: u32) -> Option<&'a Account>
+    ensures { option_copied result ≡ find (is_of link.now session) accounts.now }
+{
+    accounts.iter().find(|account| account.is_of(link, session))
+}
+
+/// Whether the session has an account.
+fn has_account(accounts: &[Account], link: &Text, session: u32) -> bool
+    ensures { result ≡ list_any (is_of link.now session) accounts.now }
+{
+    accounts.iter().any(|account| account.is_of(link, session))
+}
+
+/// Adds an empty account for the session, unless it has one.
+fn add_account(
+    alloc: Global,
+    accounts: &mut Vec<Account>,
+    link: &Text,
+    session: u32,
+) -> Result<(), AllocError>
+    ensures { OnOk result (accounts.new.items ≡ with_account link.now session accounts.old.items) }
+{
+    if has_account(accounts, link, session) {
+        return Ok(());
+    }
+    accounts.push(Account {
+        link: link.clone()?,
+        session,
+        ledger: Ledger::new(alloc),
+    })?;
+    Ok(())
+}
+
+/// Opens the publication in the session's account.
+fn open_in(
+    accounts: &mut Vec<Account>,
+    link: &Text,
+    session: u32,
+    number: u64,
+    waits: &[CopyNo],
+) -> Result<(), AllocError>
+    requires { AreBelow number accounts.old.items }
+    ensures { OnOk result (accounts.new.items ≡ its_ledger link.now session (λ ledger. ledger ++ record { number = number; waits = waits.now } ∷ []) accounts.old.items) }
+{
+    for account in accounts.iter_mut() {
+        account.open(link, session, number, waits)?;
+    }
+    Ok(())
+}
+
+/// No publication waits for anything any more.
+fn store_all(accounts: &mut Vec<Account>)
+    ensures { accounts.new.items ≡ all_ledgers all_stored accounts.old.items }
+{
+    for account in accounts.iter_mut() {
+        account.flushed();
+    }
+}
+
+/// No publication waits for the copy any more.
+fn leave(accounts: &mut Vec<Account>, copy: CopyNo)
+    ensures { accounts.new.items ≡ all_ledgers (released copy) accounts.old.items }
+{
+    for account in accounts.iter_mut() {
+        account.left(copy);
+    }
+}
+
+/// No publication waits for these copies any more.
+fn leave_all(accounts: &mut Vec<Account>, rows: &[Row])
+    ensures { accounts.new.items ≡ all_left (map (λ row. row.copy) rows.now) accounts.old.items }
+{
+    for row in rows {
+        leave(accounts, row.copy);
+    }
+}
+
+/// No publication waits for these copies any more, as far as they are ready.
+fn leave_ready(accounts: &mut Vec<Account>, rows: &[Row])
+    ensures { accounts.new.items ≡ all_left (map (λ row. row.copy) (filter is_ready rows.now)) accounts.old.items }
+{
+    for row in rows {
+        if is_ready(row) {
+            leave(accounts, row.copy);
+        }
+    }
+}
+
+/// Closes the publication in the session's account.
+fn answer(accounts: &mut Vec<Account>, link: &Text, session: u32, number: u64)
+    ensures { accounts.new.items ≡ its_ledger link.now session (without number) accounts.old.items }
+{
+    for account in accounts.iter_mut() {
+        account.answered(link, session, number);
+    }
+}

@@ -1,6 +1,0 @@
-use Rattle.std.proofs.Common.{refl}
-use Rattle.mini_broker.proofs.MailLemmas.{same_numbers, seen_all}
-use Rattle.mini_broker.proofs.mailbox.Mailbox.hand.Goals as goal
-
-pub invariant_of-self-2 : goal.invariant_of-self-2
-invariant_of-self-2 c = rw (c.see.ensures, c.in_ok-number.ensures.held) (seen_all _ _ _ (same_numbers _ (λ _. refl) _ _ c.self.invariant))

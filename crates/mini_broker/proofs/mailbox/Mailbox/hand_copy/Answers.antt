@@ -1,6 +1,0 @@
-use Rattle.std.proofs.Common.{refl}
-use Rattle.mini_broker.proofs.MailLemmas.{same_numbers, seen_all}
-use Rattle.mini_broker.proofs.mailbox.Mailbox.hand_copy.Goals as goal
-
-pub invariant_of-self : goal.invariant_of-self
-invariant_of-self c = rw (c.see.ensures, c.hand_copy.ensures) (seen_all _ _ _ (same_numbers _ (λ _. refl) _ _ c.self.invariant))

@@ -1,6 +1,0 @@
-use Rattle.std.proofs.Common.{refl}
-use Rattle.mini_broker.proofs.MailLemmas.{same_numbers}
-use Rattle.mini_broker.proofs.mailbox.Mailbox.mark_stored.Goals as goal
-
-pub invariant_of-self : goal.invariant_of-self
-invariant_of-self c = rw c.mark_stored.ensures (same_numbers _ (λ _. refl) _ _ c.self.invariant)

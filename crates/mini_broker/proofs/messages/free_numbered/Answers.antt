@@ -1,5 +1,0 @@
-use Rattle.mini_broker.proofs.MessageLemmas.{still_there}
-use Rattle.mini_broker.proofs.messages.free_numbered.Goals as goal
-
-pub free-requires : goal.free-requires
-free-requires c = still_there _ _ c.args.copies.now _ c.loop-copy.copy-index _ c.loop-copy-test.true c.requires c.loop-copy.invariant

@@ -1,7 +1,0 @@
-use Rattle.std.proofs.Common.{◌==◌, not, take}
-use Rattle.std.specs.Prelude.{filter}
-use Rattle.mini_broker.specs.Messages.{Follows}
-use Rattle.mini_broker.proofs.messages.free_numbered.Given as goal
-
-abbrev pub invariant-loop-copy : goal.invariant-loop-copy
-invariant-loop-copy l = Follows l.initial.messages l.messages (take l.copy-index l.copies) (filter (λ copy. not (copy.number == l.number)) (take l.copy-index l.copies))

@@ -1,7 +1,0 @@
--- The copies of what is left are still counted, and of the rest those of the other queues.
-use Rattle.mini_broker.proofs.CountLemmas.{IsFreed}
-use Rattle.mini_broker.specs.Queues.{named}
-use Rattle.mini_broker.proofs.queues.free_named.Given as goal
-
-abbrev pub invariant-loop-key : goal.invariant-loop-key
-invariant-loop-key l = IsFreed l.name l.fn.messages l.messages (named l.fn.table.entries) (named l.key-iterator)
