@@ -26,18 +26,19 @@ use Rattle.fed_schedule.specs.declared.script.LineReason.TheVariants as why
 use Rattle.fed_schedule.specs.declared.statement.Statement.{Statement}
 use Rattle.fed_schedule.specs.declared.statement.Statement.TheVariants as states
 use Rattle.fed_schedule.specs.declared.script.TheConstants.{MAX_SCHEDULE}
-use Rattle.fed_schedule.specs.Words.{word_at, spaced_length, octets_of, text_of}
-use Rattle.fed_schedule.specs.Fields.{place_of}
+use Rattle.schedule_words.specs.Words.{word_at, spaced_length, octets_of, text_of}
+use Rattle.schedule_words.specs.Fields.{place_of}
 use Rattle.fed_schedule.specs.Forms.{keyword_of, are_texts, is_unbuilt, is_empty_word, is_miscounted}
 use Rattle.fed_schedule.specs.Options.{header_words}
-use Rattle.fed_schedule.specs.Values.{is_bad_argument_value, arguments_of}
+use Rattle.schedule_words.specs.Values.{is_bad_argument_value, arguments_of}
 use Rattle.fed_schedule.specs.Messages.{header_front, message_of}
 use Rattle.fed_schedule.specs.Reasons.{is_late, is_bad_body, has_bad_number, has_bad_binding_names, has_bad_publish_names, has_bad_names, is_twice, has_bad_option, has_bad_message, has_bad_value}
 use Rattle.fed_schedule.specs.Statements.{client_at, queue_options_of, exchange_shape_of, declare_event, binding_at, binding_event, publish_event, shovel_event, consume_event, cancel_event, deliver_event, get_event, settle_event, purge_event, close_event, client_event, link_event, statement_of}
 use Rattle.fed_schedule.specs.Times.{head_of, line_of, is_head, is_bad_head, is_single}
 use Rattle.fed_schedule.specs.Schedule.{Reading, AreWritable, are_escaped, single_reason, reason_of, unless_refused, of_form, of_line, judge}
 use Rattle.fed_schedule.proofs.Arguments.{arguments_spelled, binding_names, props_short}
-use Rattle.fed_schedule.proofs.Lengths.{spaced_drop, spaced_line}
+use Rattle.fed_schedule.proofs.Lengths.{spaced_line}
+use Rattle.schedule_words.proofs.Lengths.{spaced_drop}
 
 -- what a statement carries
 abbrev IsWritableStatement : Statement → Type 0

@@ -11,7 +11,7 @@ use Rattle.fed_schedule.specs.declared.script.ScheduleFault.{ScheduleFault}
 use Rattle.fed_schedule.specs.declared.script.ScheduleFault.TheVariants.{Line}
 use Rattle.fed_schedule.specs.declared.statement.Statement.{Statement}
 use Rattle.fed_schedule.specs.declared.statement.Statement.TheVariants as states
-use Rattle.fed_schedule.specs.Words.{pieces_of, words_of, word_at, is_well_escaped}
+use Rattle.schedule_words.specs.Words.{pieces_of, words_of, word_at, is_well_escaped}
 use Rattle.fed_schedule.specs.Times.{head_of, line_of, is_head, is_bad_head, count_of, is_single}
 use Rattle.fed_schedule.specs.Forms.{keyword_of, are_texts, is_unbuilt, is_empty_word, is_miscounted}
 use Rattle.fed_schedule.specs.Reasons.{is_late, has_bad_number, has_bad_names, is_twice, has_bad_option, has_bad_value}

@@ -3,8 +3,8 @@ ghost use Rattle.std.specs.Prelude.{◌≡◌, IfOk};
 ghost use Rattle.fed_schedule.specs.Messages.{is_persistent, headers_of, props_of, message_of};
 
 use crate::options::header_words;
-use crate::values::arguments_of;
-use crate::words::{is_word, octets_of, text_of, word_at, words_from};
+use schedule_words::values::arguments_of;
+use schedule_words::words::{is_word, octets_of, text_of, word_at, words_from};
 use amqp_props::{FieldTable, Message, Octets, Properties};
 use fed_journal::message::properties;
 use std::alloc::{AllocError, Global};

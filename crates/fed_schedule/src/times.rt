@@ -2,8 +2,8 @@
 ghost use Rattle.std.specs.Prelude.{◌≡◌};
 ghost use Rattle.fed_schedule.specs.Times.{is_times, head_of, line_of, is_bad_head, count_of, is_repeated, is_single};
 
-use crate::numbers::repeat_count_of;
-use crate::words::{is_word, word_at, words_before, words_from};
+use schedule_words::numbers::repeat_count_of;
+use schedule_words::words::{is_word, word_at, words_before, words_from};
 use amqp_props::Octets;
 
 /// Whether the words repeat a line.
