@@ -98,11 +98,6 @@ has_bad_names Show ws = false
 has_bad_names (Client action) ws = has_bad_client_names action ws
 has_bad_names (Link _) ws = is_bad_link (word_at ws 1)
 
--- the broker's name is taken
-unfoldable pub is_twice : List (List ℕ) → Keyword → List (List ℕ) → Bool
-is_twice brokers Broker ws = list_any (same_text (text_of (word_at ws 1))) brokers
-is_twice brokers _ ws = false
-
 -- the words that are left are not the options of what a client does
 unfoldable pub has_bad_client_option : ClientAction → List (List ℕ) → Bool
 has_bad_client_option client.Consume ws = not (are_consumer_options (drop 5 ws))

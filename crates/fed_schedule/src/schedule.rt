@@ -3,20 +3,19 @@ ghost use Rattle.std.specs.Prelude.{◌≡◌, ◌≢◌, ◌+◌, ◌≤◌, �
 ghost use Rattle.std.specs.List.{list_all};
 ghost use Rattle.fed_journal.specs.Events.{IsWritable};
 ghost use Rattle.schedule_words.specs.Words.{is_well_escaped, spaced_length};
-ghost use Rattle.fed_schedule.specs.Schedule.{reading_of, AreWritable, lines_of, without_return, is_passed_over, are_escaped, single_reason, reason_of, of_line, judge, with_events, with_line, script_of, reading};
+ghost use Rattle.fed_schedule.specs.Schedule.{reading_of, AreWritable, with_broker, lines_of, without_return, is_passed_over, are_escaped, single_reason, reason_of, of_line, judge, with_events, with_line, script_of, reading};
 
 use crate::copies::push_copies;
 use crate::forms::{are_texts, has_empty_word, is_miscounted, is_unbuilt, keyword_of};
 use crate::keyword::Keyword;
-use crate::reasons::{
-    has_bad_names, has_bad_number, has_bad_option, has_bad_value, is_late, is_twice,
-};
+use crate::reasons::{has_bad_names, has_bad_number, has_bad_option, has_bad_value, is_late};
 use crate::script::{LineReason, MAX_EVENTS, MAX_SCHEDULE, ScheduleFault, Script};
 use crate::statement::{Statement, statement_of};
 use crate::times::{count_of, head_of, is_bad_head, is_single, line_of};
-use schedule_words::words::{is_well_escaped, split, word_at, words_of};
-use amqp_props::Octets;
+use amqp_props::{Octets, Text};
 use fed_journal::event::Event;
+use indexmap::IndexSet;
+use schedule_words::words::{is_well_escaped, split, word_at, words_of};
 use std::alloc::{AllocError, Global};
 
 /// The lines of a file.
@@ -108,9 +107,6 @@ fn reason_of(
     if has_bad_names(alloc, keyword, words)? {
         return Ok(Some(LineReason::Name));
     }
-    if is_twice(alloc, script.brokers.as_slice(), keyword, words)? {
-        return Ok(Some(LineReason::Twice));
-    }
     if has_bad_option(keyword, words) {
         return Ok(Some(LineReason::Option));
     }
@@ -174,6 +170,7 @@ fn push_events(
     requires written { AreWritable script.old.events.items }
     ensures ok { OnOk result (with_events number (reading_of script.old) count event.now ≡ Ok (reading_of script.new)) }
     ensures err { IfErr result (λ fault. fault ≢ ScheduleFault.Memory → with_events number (reading_of script.old) count event.now ≡ Err fault) }
+    ensures brokers { script.new.brokers.items ≡ script.old.brokers.items }
     ensures writable { OnOk result (AreWritable script.new.events.items) }
 {
     if script.events.len() + usize::from(count) > MAX_EVENTS {
@@ -188,17 +185,52 @@ fn push_events(
     Ok(())
 }
 
+/// Adds a broker, whose name is looked up among those before it.
+#[tactic(auto, unfolding(crate::specs::Schedule::with_broker))]
+fn push_broker(
+    script: &mut Script,
+    names: &mut IndexSet<Text>,
+    number: u32,
+    name: Text,
+) -> Result<(), ScheduleFault>
+    requires { names.old.keys ≡ script.old.brokers.items }
+    ensures ok { OnOk result (with_broker number (reading_of script.old) name ≡ Ok (reading_of script.new)) }
+    ensures err { IfErr result (λ fault. fault ≢ ScheduleFault.Memory → with_broker number (reading_of script.old) name ≡ Err fault) }
+    ensures names { OnOk result (names.new.keys ≡ script.new.brokers.items) }
+    ensures events { OnOk result (script.new.events.items ≡ script.old.events.items) }
+{
+    if names.contains(&name) {
+        return Err(ScheduleFault::Line {
+            line: number,
+            reason: LineReason::Twice,
+        });
+    }
+    let Ok(copy) = name.clone() else {
+        return Err(ScheduleFault::Memory);
+    };
+    if names.insert(copy).is_err() {
+        return Err(ScheduleFault::Memory);
+    }
+    if script.brokers.push(name).is_err() {
+        return Err(ScheduleFault::Memory);
+    }
+    Ok(())
+}
+
 /// Adds a line to a part of a schedule.
 #[tactic(auto, unfolding(crate::specs::Schedule::with_line), using(crate::proofs::Writable::judge_event))]
 fn read_line(
     alloc: Global,
     script: &mut Script,
+    names: &mut IndexSet<Text>,
     number: u32,
     line: &[u8],
 ) -> Result<(), ScheduleFault>
+    requires named { names.old.keys ≡ script.old.brokers.items }
     requires written { AreWritable script.old.events.items }
     requires within { length line.now ≤ MAX_SCHEDULE }
     ensures ok { OnOk result (with_line number (reading_of script.old) line.now ≡ Ok (reading_of script.new)) }
+    ensures names { OnOk result (names.new.keys ≡ script.new.brokers.items) }
     ensures writable { OnOk result (AreWritable script.new.events.items) }
     ensures err { IfErr result (λ fault. fault ≢ ScheduleFault.Memory → with_line number (reading_of script.old) line.now ≡ Err fault) }
 {
@@ -209,7 +241,7 @@ fn read_line(
     let words = words_of(alloc, line).map_err(|_| ScheduleFault::Memory)?;
     let count = count_of(head_of(words.as_slice()));
     match judge(alloc, script, words.as_slice()).map_err(|_| ScheduleFault::Memory)? {
-        Ok(Statement::Broker(name)) => script.brokers.push(name).map_err(|_| ScheduleFault::Memory),
+        Ok(Statement::Broker(name)) => push_broker(script, names, number, name),
         Ok(Statement::Event(event)) => {
             let pushed = push_events(script, number, count, &event);
             drop(event);
@@ -235,8 +267,15 @@ fn read_lines(alloc: Global, lines: &[Octets]) -> Result<Script, ScheduleFault>
         brokers: Vec::new(alloc),
         events: Vec::new(alloc),
     };
+    let mut names = IndexSet::new(alloc);
     for (index, line) in lines.iter().enumerate() {
-        read_line(alloc, &mut script, index as u32 + 1, line.as_slice())?;
+        read_line(
+            alloc,
+            &mut script,
+            &mut names,
+            index as u32 + 1,
+            line.as_slice(),
+        )?;
     }
     Ok(script)
 }
