@@ -19,16 +19,16 @@ use Rattle.field_tables.specs.View.{pairs_of}
 use Rattle.amqp_props.specs.ContentHeader.{AreShort}
 use Rattle.fed_journal.specs.Names.{same_text}
 use Rattle.fed_schedule.specs.declared.script.TheConstants.{MAX_SCHEDULE}
-use Rattle.fed_schedule.specs.Words.{word_at, with_space, spaced_length, octets_of, text_of}
-use Rattle.fed_schedule.specs.Numbers.{is_decimal, number_up_to, number_within, begins_with_minus, minus, signed_within, long_of, longlong_of}
-use Rattle.fed_schedule.specs.Fields.{is_long}
-use Rattle.fed_schedule.specs.Values.{cut_at, truth_of, void_of, spelled_value, raw_of, typed_value, value_of, value_from, named_value, is_bad_argument_name, pair_from, argument_of, arguments_of}
+use Rattle.schedule_words.specs.Words.{word_at, with_space, spaced_length, octets_of, text_of}
+use Rattle.schedule_words.specs.Numbers.{is_decimal, number_up_to, number_within, begins_with_minus, minus, signed_within, long_of, longlong_of}
+use Rattle.schedule_words.specs.Fields.{is_long}
+use Rattle.schedule_words.specs.Values.{cut_at, truth_of, void_of, spelled_value, raw_of, typed_value, value_of, value_from, named_value, is_bad_argument_name, pair_from, argument_of, arguments_of}
 use Rattle.fed_schedule.specs.Options.{without, header_words}
 use Rattle.fed_schedule.specs.Messages.{header_front, headers_of, props_of}
 use Rattle.fed_schedule.specs.Reasons.{has_bad_binding_names, has_bad_publish_names}
-use Rattle.fed_schedule.proofs.Lengths.{spaced_drop, length_octets, length_text, length_cut, pair_length, length_pairs}
-use Rattle.fed_schedule.proofs.Spelled.{digits_write, spelled-is}
-use Rattle.fed_schedule.proofs.Utf8.{utf8_lossy-is_text}
+use Rattle.schedule_words.proofs.Lengths.{spaced_drop, length_octets, length_text, length_cut, pair_length, length_pairs}
+use Rattle.schedule_words.proofs.Spelled.{digits_write, spelled-is}
+use Rattle.schedule_words.proofs.Utf8.{utf8_lossy-is_text}
 
 -- ---- options
 

@@ -1,7 +1,3 @@
 pub mod Arguments
 pub mod Lengths
-pub mod Pieces
-pub mod Spelled
-pub mod Utf8
-pub mod Views
 pub mod Writable

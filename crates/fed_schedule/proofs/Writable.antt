@@ -26,18 +26,19 @@ use Rattle.fed_schedule.specs.declared.script.LineReason.TheVariants as why
 use Rattle.fed_schedule.specs.declared.statement.Statement.{Statement}
 use Rattle.fed_schedule.specs.declared.statement.Statement.TheVariants as states
 use Rattle.fed_schedule.specs.declared.script.TheConstants.{MAX_SCHEDULE}
-use Rattle.fed_schedule.specs.Words.{word_at, spaced_length, octets_of, text_of}
-use Rattle.fed_schedule.specs.Fields.{place_of}
+use Rattle.schedule_words.specs.Words.{word_at, spaced_length, octets_of, text_of}
+use Rattle.schedule_words.specs.Fields.{place_of}
 use Rattle.fed_schedule.specs.Forms.{keyword_of, are_texts, is_unbuilt, is_empty_word, is_miscounted}
 use Rattle.fed_schedule.specs.Options.{header_words}
-use Rattle.fed_schedule.specs.Values.{is_bad_argument_value, arguments_of}
+use Rattle.schedule_words.specs.Values.{is_bad_argument_value, arguments_of}
 use Rattle.fed_schedule.specs.Messages.{header_front, message_of}
-use Rattle.fed_schedule.specs.Reasons.{is_late, is_bad_body, has_bad_number, has_bad_binding_names, has_bad_publish_names, has_bad_names, is_twice, has_bad_option, has_bad_message, has_bad_value}
+use Rattle.fed_schedule.specs.Reasons.{is_late, is_bad_body, has_bad_number, has_bad_binding_names, has_bad_publish_names, has_bad_names, has_bad_option, has_bad_message, has_bad_value}
 use Rattle.fed_schedule.specs.Statements.{client_at, queue_options_of, exchange_shape_of, declare_event, binding_at, binding_event, publish_event, shovel_event, consume_event, cancel_event, deliver_event, get_event, settle_event, purge_event, close_event, client_event, link_event, statement_of}
 use Rattle.fed_schedule.specs.Times.{head_of, line_of, is_head, is_bad_head, is_single}
 use Rattle.fed_schedule.specs.Schedule.{Reading, AreWritable, are_escaped, single_reason, reason_of, unless_refused, of_form, of_line, judge}
 use Rattle.fed_schedule.proofs.Arguments.{arguments_spelled, binding_names, props_short}
-use Rattle.fed_schedule.proofs.Lengths.{spaced_drop, spaced_line}
+use Rattle.fed_schedule.proofs.Lengths.{spaced_line}
+use Rattle.schedule_words.proofs.Lengths.{spaced_drop}
 
 -- what a statement carries
 abbrev IsWritableStatement : Statement → Type 0
@@ -124,28 +125,27 @@ record IsAccepted (k : Keyword) (ws : List (List ℕ)) : Type 0 where
   named : has_bad_names k ws ≡ false
   valued : has_bad_value k ws ≡ false
 
-abbrev first_reason : (u l m e n a t o v : Bool) → Option LineReason
-first_reason u l m e n a t o v =
+abbrev first_reason : (u l m e n a o v : Bool) → Option LineReason
+first_reason u l m e n a o v =
     cond u (Some why.Word) (cond l (Some why.Order) (cond m (Some why.Count) (cond e (Some why.Escape) (cond n (Some why.Number)
-    (cond a (Some why.Name) (cond t (Some why.Twice) (cond o (Some why.Option) (cond v (Some why.Value) None))))))))
+    (cond a (Some why.Name) (cond o (Some why.Option) (cond v (Some why.Value) None)))))))
 
-none_applies : (u l m e n a t o v : Bool) → first_reason u l m e n a t o v ≡ None → (a ≡ false) × (v ≡ false)
-none_applies true l m e n a t o v x = absurd cc
-none_applies false true m e n a t o v x = absurd cc
-none_applies false false true e n a t o v x = absurd cc
-none_applies false false false true n a t o v x = absurd cc
-none_applies false false false false true a t o v x = absurd cc
-none_applies false false false false false true t o v x = absurd cc
-none_applies false false false false false false true o v x = absurd cc
-none_applies false false false false false false false true v x = absurd cc
-none_applies false false false false false false false false true x = absurd cc
-none_applies false false false false false false false false false x = (refl, refl)
+none_applies : (u l m e n a o v : Bool) → first_reason u l m e n a o v ≡ None → (a ≡ false) × (v ≡ false)
+none_applies true l m e n a o v x = absurd cc
+none_applies false true m e n a o v x = absurd cc
+none_applies false false true e n a o v x = absurd cc
+none_applies false false false true n a o v x = absurd cc
+none_applies false false false false true a o v x = absurd cc
+none_applies false false false false false true o v x = absurd cc
+none_applies false false false false false false true v x = absurd cc
+none_applies false false false false false false false true x = absurd cc
+none_applies false false false false false false false false x = (refl, refl)
 
 accepted : (r : Reading) (k : Keyword) (head ws : List (List ℕ)) → reason_of r k head ws ≡ None → IsAccepted k ws
 unfolding reason_of
 accepted r k head ws e =
     let t = none_applies (is_unbuilt r.events k head ws) (is_late (not (length r.events == 0)) k) (list_any is_empty_word head || is_miscounted k ws) (not (are_escaped head ws))
-    (is_bad_head head || has_bad_number k ws) (has_bad_names k ws) (is_twice r.brokers k ws) (has_bad_option k ws) (has_bad_value k ws) e in
+    (is_bad_head head || has_bad_number k ws) (has_bad_names k ws) (has_bad_option k ws) (has_bad_value k ws) e in
     record { named = t.0; valued = t.1 }
 
 abbrev IsGood : Result Statement LineReason → Type 0

@@ -13,8 +13,8 @@ use Rattle.fed_schedule.specs.declared.keyword.ClientAction.{ClientAction}
 use Rattle.fed_schedule.specs.declared.keyword.ClientAction.TheVariants as client
 use Rattle.fed_schedule.specs.declared.keyword.LinkAction.{LinkAction}
 use Rattle.fed_schedule.specs.declared.keyword.LinkAction.TheVariants.{Open, Take, Send, Accept, Confirm, Note, Settle}
-use Rattle.fed_schedule.specs.Words.{word_at, is_text, text_of}
-use Rattle.fed_schedule.specs.Fields.{place_of}
+use Rattle.schedule_words.specs.Words.{word_at, is_text, text_of}
+use Rattle.schedule_words.specs.Fields.{place_of}
 use Rattle.fed_schedule.specs.Times.{is_times, is_repeated}
 use Rattle.fed_schedule.specs.Options.{are_queue_options, are_built_queue_options}
 

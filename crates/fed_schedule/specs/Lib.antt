@@ -1,13 +1,7 @@
-pub mod Choices
-pub mod Fields
 pub mod Forms
-pub mod Links
 pub mod Messages
-pub mod Numbers
 pub mod Options
 pub mod Reasons
 pub mod Schedule
 pub mod Statements
 pub mod Times
-pub mod Values
-pub mod Words

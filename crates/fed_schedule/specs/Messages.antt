@@ -5,9 +5,9 @@ use Rattle.amqp_props.specs.declared.message.Message.{Message}
 use Rattle.amqp_props.specs.declared.properties.Properties.{Properties}
 use Rattle.fed_journal.specs.Names.{same_text}
 use Rattle.fed_journal.specs.Messages.{properties}
-use Rattle.fed_schedule.specs.Words.{word_at, text_of, octets_of}
+use Rattle.schedule_words.specs.Words.{word_at, text_of, octets_of}
 use Rattle.fed_schedule.specs.Options.{header_words}
-use Rattle.fed_schedule.specs.Values.{arguments_of}
+use Rattle.schedule_words.specs.Values.{arguments_of}
 
 -- a word of a header field begins so
 abbrev pub header_front : List ℕ

@@ -3,8 +3,8 @@ use Rattle.std.specs.Prelude.{ℕ, List, Bool, ◌&&◌, not, if◌then◌else�
 use Rattle.std.specs.Option.{unwrap_or}
 use Rattle.std.specs.List.{list_any, starts_with}
 use Rattle.fed_journal.specs.Names.{same_text}
-use Rattle.fed_schedule.specs.Words.{word_at}
-use Rattle.fed_schedule.specs.Numbers.{prefetch_count_of}
+use Rattle.schedule_words.specs.Words.{word_at}
+use Rattle.schedule_words.specs.Numbers.{prefetch_count_of}
 
 -- the words after an option, if it stands first
 unfoldable pub without : List ℕ → List (List ℕ) → List (List ℕ)

@@ -9,13 +9,13 @@ use Rattle.fed_schedule.specs.declared.keyword.Keyword.{Keyword}
 use Rattle.fed_schedule.specs.declared.keyword.Keyword.TheVariants.{Broker, Declare, Binding, Publish, Flush, Shovel, Client, Link, Show}
 use Rattle.fed_schedule.specs.declared.keyword.ClientAction.{ClientAction}
 use Rattle.fed_schedule.specs.declared.keyword.ClientAction.TheVariants as client
-use Rattle.fed_schedule.specs.Words.{word_at, text_of, octets_of}
-use Rattle.fed_schedule.specs.Numbers.{client_of, copy_of}
-use Rattle.fed_schedule.specs.Fields.{is_run_name, is_long, place_of, is_bad_place}
-use Rattle.fed_schedule.specs.Links.{is_bad_link}
-use Rattle.fed_schedule.specs.Choices.{exchange_kind_of, sort_of}
+use Rattle.schedule_words.specs.Words.{word_at, text_of, octets_of}
+use Rattle.schedule_words.specs.Numbers.{client_of, copy_of}
+use Rattle.schedule_words.specs.Fields.{is_run_name, is_long, place_of, is_bad_place}
+use Rattle.schedule_words.specs.Links.{is_bad_link}
+use Rattle.schedule_words.specs.Choices.{exchange_kind_of, sort_of}
 use Rattle.fed_schedule.specs.Options.{is_alone, is_bad_prefetch, are_consumer_options, are_built_queue_options, are_exchange_options, header_words}
-use Rattle.fed_schedule.specs.Values.{max_header, is_no_argument, is_bad_argument_number, is_bad_argument_name, is_bad_argument_value, arguments_of}
+use Rattle.schedule_words.specs.Values.{max_header, is_no_argument, is_bad_argument_number, is_bad_argument_name, is_bad_argument_value, arguments_of}
 use Rattle.fed_schedule.specs.Messages.{header_front, props_of}
 
 -- a broker's line stands after another line
@@ -97,11 +97,6 @@ has_bad_names Shovel ws = has_bad_shovel_names ws
 has_bad_names Show ws = false
 has_bad_names (Client action) ws = has_bad_client_names action ws
 has_bad_names (Link _) ws = is_bad_link (word_at ws 1)
-
--- the broker's name is taken
-unfoldable pub is_twice : List (List ℕ) → Keyword → List (List ℕ) → Bool
-is_twice brokers Broker ws = list_any (same_text (text_of (word_at ws 1))) brokers
-is_twice brokers _ ws = false
 
 -- the words that are left are not the options of what a client does
 unfoldable pub has_bad_client_option : ClientAction → List (List ℕ) → Bool

@@ -3,6 +3,7 @@ use Rattle.std.specs.Prelude.{ℕ, ◌+◌, ◌-◌, List, [], ◌∷◌, ◌++�
 use Rattle.std.specs.List.{list_any, list_all}
 use Rattle.fed_journal.specs.declared.event.Event.{Event}
 use Rattle.fed_journal.specs.Events.{IsWritable}
+use Rattle.fed_journal.specs.Names.{same_text}
 use Rattle.fed_schedule.specs.declared.keyword.Keyword.{Keyword}
 use Rattle.fed_schedule.specs.declared.script.Script.{Script}
 use Rattle.fed_schedule.specs.declared.script.LineReason.{LineReason}
@@ -11,10 +12,10 @@ use Rattle.fed_schedule.specs.declared.script.ScheduleFault.{ScheduleFault}
 use Rattle.fed_schedule.specs.declared.script.ScheduleFault.TheVariants.{Line}
 use Rattle.fed_schedule.specs.declared.statement.Statement.{Statement}
 use Rattle.fed_schedule.specs.declared.statement.Statement.TheVariants as states
-use Rattle.fed_schedule.specs.Words.{pieces_of, words_of, word_at, is_well_escaped}
+use Rattle.schedule_words.specs.Words.{pieces_of, words_of, word_at, is_well_escaped}
 use Rattle.fed_schedule.specs.Times.{head_of, line_of, is_head, is_bad_head, count_of, is_single}
 use Rattle.fed_schedule.specs.Forms.{keyword_of, are_texts, is_unbuilt, is_empty_word, is_miscounted}
-use Rattle.fed_schedule.specs.Reasons.{is_late, has_bad_number, has_bad_names, is_twice, has_bad_option, has_bad_value}
+use Rattle.fed_schedule.specs.Reasons.{is_late, has_bad_number, has_bad_names, has_bad_option, has_bad_value}
 use Rattle.fed_schedule.specs.Statements.{statement_of}
 
 -- the brokers of a run and its events, each with the number of its line
@@ -62,7 +63,6 @@ reason_of r k head ws =
     if not (are_escaped head ws) then Some why.Escape else
     if is_bad_head head || has_bad_number k ws then Some why.Number else
     if has_bad_names k ws then Some why.Name else
-    if is_twice r.brokers k ws then Some why.Twice else
     if has_bad_option k ws then Some why.Option else
     if has_bad_value k ws then Some why.Value else None
 
@@ -94,9 +94,15 @@ with_events n r count e =
     if nat_lt max_events (length r.events + count) then Err (Line n why.Events)
     else Ok (record { brokers = r.brokers; events = r.events ++ replicate count (n, e) })
 
+-- the brokers, and one more, unless its name is taken. A broker's line has no word that a later reason could refuse.
+unfoldable pub with_broker : ℕ → Reading → List ℕ → Result Reading ScheduleFault
+with_broker n r name =
+    if list_any (same_text name) r.brokers then Err (Line n why.Twice)
+    else Ok (record { brokers = r.brokers ++ name ∷ []; events = r.events })
+
 -- a part of a schedule, with one statement more, or so many of an event
 abbrev pub with_statement : ℕ → Reading → ℕ → Result Statement LineReason → Result Reading ScheduleFault
-with_statement n r count (Ok (states.Broker name)) = Ok (record { brokers = r.brokers ++ name ∷ []; events = r.events })
+with_statement n r count (Ok (states.Broker name)) = with_broker n r name
 with_statement n r count (Ok (states.Event event)) = with_events n r count event
 with_statement n r count (Err reason) = Err (Line n reason)
 

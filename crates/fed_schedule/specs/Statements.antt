@@ -25,13 +25,13 @@ use Rattle.fed_schedule.specs.declared.keyword.LinkAction.{LinkAction}
 use Rattle.fed_schedule.specs.declared.keyword.LinkAction.TheVariants.{Open, Take, Send, Accept, Confirm, Note, Settle}
 use Rattle.fed_schedule.specs.declared.statement.Statement.{Statement}
 use Rattle.fed_schedule.specs.declared.statement.Statement.TheVariants as states
-use Rattle.fed_schedule.specs.Words.{word_at, text_of}
-use Rattle.fed_schedule.specs.Numbers.{client_of, copy_of}
-use Rattle.fed_schedule.specs.Fields.{place_of}
-use Rattle.fed_schedule.specs.Links.{link_name}
-use Rattle.fed_schedule.specs.Choices.{exchange_kind_of, sort_of}
+use Rattle.schedule_words.specs.Words.{word_at, text_of}
+use Rattle.schedule_words.specs.Numbers.{client_of, copy_of}
+use Rattle.schedule_words.specs.Fields.{place_of}
+use Rattle.schedule_words.specs.Links.{link_name}
+use Rattle.schedule_words.specs.Choices.{exchange_kind_of, sort_of}
 use Rattle.fed_schedule.specs.Options.{consumer_prefetch, has_option}
-use Rattle.fed_schedule.specs.Values.{arguments_of}
+use Rattle.schedule_words.specs.Values.{arguments_of}
 use Rattle.fed_schedule.specs.Messages.{message_of}
 
 abbrev pub link_event : LinkAction → List ℕ → Event

@@ -2,8 +2,8 @@
 use Rattle.std.specs.Prelude.{ℕ, List, [], Bool, ◌&&◌, ◌||◌, not, if◌then◌else◌, ◌==◌, nat_lt, length, take, drop, is_some, codes}
 use Rattle.std.specs.Option.{unwrap_or}
 use Rattle.fed_journal.specs.Names.{same_text}
-use Rattle.fed_schedule.specs.Words.{word_at}
-use Rattle.fed_schedule.specs.Numbers.{repeat_count_of}
+use Rattle.schedule_words.specs.Words.{word_at}
+use Rattle.schedule_words.specs.Numbers.{repeat_count_of}
 
 abbrev pub is_times : List (List ℕ) → Bool
 is_times ws = same_text (word_at ws 0) (codes "times")

@@ -1,17 +1,17 @@
 //! The forms of lines, by their first word.
 ghost use Rattle.std.specs.Prelude.{◌≡◌, ◌<◌, IfOk};
 ghost use Rattle.std.specs.List.{list_any, list_all};
-ghost use Rattle.fed_schedule.specs.Words.{is_text};
+ghost use Rattle.schedule_words.specs.Words.{is_text};
 ghost use Rattle.fed_schedule.specs.Forms.{client_action_of, link_action_of, action_keyword_of, keyword_of, are_texts_but, are_texts, is_unbuilt_declare, line_sets_shovel, is_unbuilt_shovel, is_unbuilt, client_word_count, declare_word_count, word_count, takes_options, is_empty_word, is_miscounted};
 
-use crate::fields::place_of;
 use crate::keyword::{BindingAction, ClientAction, Keyword, LinkAction, Settlement};
 use crate::options::{are_built_queue_options, are_queue_options};
 use crate::times::{is_repeated, is_times};
-use crate::words::{is_text, is_word, text_of, word_at, words_before, words_from};
 use amqp_props::{Octets, Text};
 use fed_journal::event::Event;
 use fed_journal::place::Place;
+use schedule_words::fields::place_of;
+use schedule_words::words::{is_text, is_word, text_of, word_at, words_before, words_from};
 use std::alloc::{AllocError, Global};
 
 /// What a client does by that word.

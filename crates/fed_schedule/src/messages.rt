@@ -3,10 +3,10 @@ ghost use Rattle.std.specs.Prelude.{◌≡◌, IfOk};
 ghost use Rattle.fed_schedule.specs.Messages.{is_persistent, headers_of, props_of, message_of};
 
 use crate::options::header_words;
-use crate::values::arguments_of;
-use crate::words::{is_word, octets_of, text_of, word_at, words_from};
 use amqp_props::{FieldTable, Message, Octets, Properties};
 use fed_journal::message::properties;
+use schedule_words::values::arguments_of;
+use schedule_words::words::{is_word, octets_of, text_of, word_at, words_from};
 use std::alloc::{AllocError, Global};
 
 /// What a word of a header field begins with.

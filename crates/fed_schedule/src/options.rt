@@ -2,9 +2,9 @@
 ghost use Rattle.std.specs.Prelude.{◌≡◌};
 ghost use Rattle.fed_schedule.specs.Options.{without, are_queue_options, are_built_queue_options, are_exchange_options, has_option, header_words, is_alone, names_prefetch, prefetch_of, is_bad_prefetch, without_prefetch, are_consumer_options, consumer_prefetch};
 
-use crate::numbers::prefetch_count_of;
-use crate::words::{is_word, word_at, words_from};
 use amqp_props::Octets;
+use schedule_words::numbers::prefetch_count_of;
+use schedule_words::words::{is_word, word_at, words_from};
 
 /// The words after an option, if it stands first.
 #[tactic(auto, unfolding(crate::specs::Options::without))]

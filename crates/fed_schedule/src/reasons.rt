@@ -1,32 +1,31 @@
 //! What makes a line's words no values of its form.
 ghost use Rattle.std.specs.Prelude.{◌≡◌, ◌≤◌, ◌+◌, [], false, IfOk};
 ghost use Rattle.std.specs.List.{list_any};
-ghost use Rattle.fed_journal.specs.Names.{same_text};
-ghost use Rattle.fed_schedule.specs.Fields.{place_of, is_bad_place};
-ghost use Rattle.fed_schedule.specs.Words.{spaced_length};
+ghost use Rattle.schedule_words.specs.Fields.{place_of, is_bad_place};
+ghost use Rattle.schedule_words.specs.Words.{spaced_length};
 ghost use Rattle.fed_schedule.specs.Options.{is_bad_prefetch};
-ghost use Rattle.fed_schedule.specs.Values.{is_bad_argument_name};
-ghost use Rattle.fed_schedule.specs.Reasons.{is_late, is_bad_client, is_bad_copy, has_bad_client_number, has_bad_number, is_bad_run_name, is_bad_name, has_bad_place_and_name, has_bad_end, has_bad_shovel_names, has_bad_binding_names, has_bad_publish_names, has_bad_consumer_names, has_bad_client_names, has_bad_names, is_twice, has_bad_client_option, has_bad_declare_option, has_bad_option, is_bad_queue, is_bad_body, has_bad_queues, has_bad_arguments, has_bad_message, has_bad_value};
+ghost use Rattle.schedule_words.specs.Values.{is_bad_argument_name};
+ghost use Rattle.fed_schedule.specs.Reasons.{is_late, is_bad_client, is_bad_copy, has_bad_client_number, has_bad_number, is_bad_run_name, is_bad_name, has_bad_place_and_name, has_bad_end, has_bad_shovel_names, has_bad_binding_names, has_bad_publish_names, has_bad_consumer_names, has_bad_client_names, has_bad_names, has_bad_client_option, has_bad_declare_option, has_bad_option, is_bad_queue, is_bad_body, has_bad_queues, has_bad_arguments, has_bad_message, has_bad_value};
 
-use crate::choices::{exchange_kind_of, sort_of};
-use crate::fields::{is_bad_place, is_long, is_run_name, place_of};
 use crate::keyword::{ClientAction, Keyword};
-use crate::links::is_bad_link;
 use crate::messages::{HEADER_FRONT, props_of};
-use crate::numbers::{client_of, copy_of};
 use crate::options::{
     are_built_queue_options, are_consumer_options, are_exchange_options, header_words, is_alone,
     is_bad_prefetch,
 };
 use crate::script::MAX_SCHEDULE;
-use crate::values::{
+use amqp_props::{Octets, header_len};
+use client_rules::is_reserved;
+use field_tables::table_len;
+use schedule_words::choices::{exchange_kind_of, sort_of};
+use schedule_words::fields::{is_bad_place, is_long, is_run_name, place_of};
+use schedule_words::links::is_bad_link;
+use schedule_words::numbers::{client_of, copy_of};
+use schedule_words::values::{
     MAX_HEADER, arguments_of, has_bad_argument_name, has_bad_argument_number,
     has_bad_argument_value, has_no_argument,
 };
-use crate::words::{is_word, octets_of, text_of, word_at, words_from};
-use amqp_props::{Octets, Text, header_len};
-use client_rules::is_reserved;
-use field_tables::table_len;
+use schedule_words::words::{is_word, octets_of, text_of, word_at, words_from};
 use std::alloc::{AllocError, Global};
 
 /// The most octets of a message's body.
@@ -225,31 +224,6 @@ pub(crate) fn has_bad_names(
         Keyword::Show => Ok(false),
         Keyword::Client(action) => has_bad_client_names(alloc, action, words),
         Keyword::Link(_) => is_bad_link(alloc, word_at(words, 1)),
-    }
-}
-
-fn is_taken(brokers: &[Text], name: &Text) -> bool
-    ensures { result ≡ list_any (same_text name.now) brokers.now }
-{
-    brokers.iter().any(|broker| name == broker)
-}
-
-/// Whether the broker's name is taken.
-#[tactic(auto, unfolding(crate::specs::Reasons::is_twice))]
-pub(crate) fn is_twice(
-    alloc: Global,
-    brokers: &[Text],
-    keyword: Keyword,
-    words: &[Octets],
-) -> Result<bool, AllocError>
-    ensures { IfOk result (λ twice. twice ≡ is_twice brokers.now keyword words.now) }
-{
-    match keyword {
-        Keyword::Broker => {
-            let name = text_of(alloc, word_at(words, 1))?;
-            Ok(is_taken(brokers, &name))
-        }
-        _ => Ok(false),
     }
 }
 

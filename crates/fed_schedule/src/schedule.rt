@@ -2,21 +2,20 @@
 ghost use Rattle.std.specs.Prelude.{◌≡◌, ◌≢◌, ◌+◌, ◌≤◌, ◌<◌, Ok, Err, IfOk, IfErr, OnOk, length};
 ghost use Rattle.std.specs.List.{list_all};
 ghost use Rattle.fed_journal.specs.Events.{IsWritable};
-ghost use Rattle.fed_schedule.specs.Words.{is_well_escaped, spaced_length};
-ghost use Rattle.fed_schedule.specs.Schedule.{reading_of, AreWritable, lines_of, without_return, is_passed_over, are_escaped, single_reason, reason_of, of_line, judge, with_events, with_line, script_of, reading};
+ghost use Rattle.schedule_words.specs.Words.{is_well_escaped, spaced_length};
+ghost use Rattle.fed_schedule.specs.Schedule.{reading_of, AreWritable, with_broker, lines_of, without_return, is_passed_over, are_escaped, single_reason, reason_of, of_line, judge, with_events, with_line, script_of, reading};
 
 use crate::copies::push_copies;
 use crate::forms::{are_texts, has_empty_word, is_miscounted, is_unbuilt, keyword_of};
 use crate::keyword::Keyword;
-use crate::reasons::{
-    has_bad_names, has_bad_number, has_bad_option, has_bad_value, is_late, is_twice,
-};
+use crate::reasons::{has_bad_names, has_bad_number, has_bad_option, has_bad_value, is_late};
 use crate::script::{LineReason, MAX_EVENTS, MAX_SCHEDULE, ScheduleFault, Script};
 use crate::statement::{Statement, statement_of};
 use crate::times::{count_of, head_of, is_bad_head, is_single, line_of};
-use crate::words::{is_well_escaped, split, word_at, words_of};
-use amqp_props::Octets;
+use amqp_props::{Octets, Text};
 use fed_journal::event::Event;
+use indexmap::IndexSet;
+use schedule_words::words::{is_well_escaped, split, word_at, words_of};
 use std::alloc::{AllocError, Global};
 
 /// The lines of a file.
@@ -108,9 +107,6 @@ fn reason_of(
     if has_bad_names(alloc, keyword, words)? {
         return Ok(Some(LineReason::Name));
     }
-    if is_twice(alloc, script.brokers.as_slice(), keyword, words)? {
-        return Ok(Some(LineReason::Twice));
-    }
     if has_bad_option(keyword, words) {
         return Ok(Some(LineReason::Option));
     }
@@ -174,6 +170,7 @@ fn push_events(
     requires written { AreWritable script.old.events.items }
     ensures ok { OnOk result (with_events number (reading_of script.old) count event.now ≡ Ok (reading_of script.new)) }
     ensures err { IfErr result (λ fault. fault ≢ ScheduleFault.Memory → with_events number (reading_of script.old) count event.now ≡ Err fault) }
+    ensures brokers { script.new.brokers.items ≡ script.old.brokers.items }
     ensures writable { OnOk result (AreWritable script.new.events.items) }
 {
     if script.events.len() + usize::from(count) > MAX_EVENTS {
@@ -188,17 +185,52 @@ fn push_events(
     Ok(())
 }
 
+/// Adds a broker, whose name is looked up among those before it.
+#[tactic(auto, unfolding(crate::specs::Schedule::with_broker))]
+fn push_broker(
+    script: &mut Script,
+    names: &mut IndexSet<Text>,
+    number: u32,
+    name: Text,
+) -> Result<(), ScheduleFault>
+    requires { names.old.keys ≡ script.old.brokers.items }
+    ensures ok { OnOk result (with_broker number (reading_of script.old) name ≡ Ok (reading_of script.new)) }
+    ensures err { IfErr result (λ fault. fault ≢ ScheduleFault.Memory → with_broker number (reading_of script.old) name ≡ Err fault) }
+    ensures names { OnOk result (names.new.keys ≡ script.new.brokers.items) }
+    ensures events { OnOk result (script.new.events.items ≡ script.old.events.items) }
+{
+    if names.contains(&name) {
+        return Err(ScheduleFault::Line {
+            line: number,
+            reason: LineReason::Twice,
+        });
+    }
+    let Ok(copy) = name.clone() else {
+        return Err(ScheduleFault::Memory);
+    };
+    if names.insert(copy).is_err() {
+        return Err(ScheduleFault::Memory);
+    }
+    if script.brokers.push(name).is_err() {
+        return Err(ScheduleFault::Memory);
+    }
+    Ok(())
+}
+
 /// Adds a line to a part of a schedule.
 #[tactic(auto, unfolding(crate::specs::Schedule::with_line), using(crate::proofs::Writable::judge_event))]
 fn read_line(
     alloc: Global,
     script: &mut Script,
+    names: &mut IndexSet<Text>,
     number: u32,
     line: &[u8],
 ) -> Result<(), ScheduleFault>
+    requires named { names.old.keys ≡ script.old.brokers.items }
     requires written { AreWritable script.old.events.items }
     requires within { length line.now ≤ MAX_SCHEDULE }
     ensures ok { OnOk result (with_line number (reading_of script.old) line.now ≡ Ok (reading_of script.new)) }
+    ensures names { OnOk result (names.new.keys ≡ script.new.brokers.items) }
     ensures writable { OnOk result (AreWritable script.new.events.items) }
     ensures err { IfErr result (λ fault. fault ≢ ScheduleFault.Memory → with_line number (reading_of script.old) line.now ≡ Err fault) }
 {
@@ -209,7 +241,7 @@ fn read_line(
     let words = words_of(alloc, line).map_err(|_| ScheduleFault::Memory)?;
     let count = count_of(head_of(words.as_slice()));
     match judge(alloc, script, words.as_slice()).map_err(|_| ScheduleFault::Memory)? {
-        Ok(Statement::Broker(name)) => script.brokers.push(name).map_err(|_| ScheduleFault::Memory),
+        Ok(Statement::Broker(name)) => push_broker(script, names, number, name),
         Ok(Statement::Event(event)) => {
             let pushed = push_events(script, number, count, &event);
             drop(event);
@@ -235,8 +267,15 @@ fn read_lines(alloc: Global, lines: &[Octets]) -> Result<Script, ScheduleFault>
         brokers: Vec::new(alloc),
         events: Vec::new(alloc),
     };
+    let mut names = IndexSet::new(alloc);
     for (index, line) in lines.iter().enumerate() {
-        read_line(alloc, &mut script, index as u32 + 1, line.as_slice())?;
+        read_line(
+            alloc,
+            &mut script,
+            &mut names,
+            index as u32 + 1,
+            line.as_slice(),
+        )?;
     }
     Ok(script)
 }
@@ -255,170 +294,4 @@ pub fn read(alloc: Global, bytes: &[u8]) -> Result<Script, ScheduleFault>
 {
     let lines = lines_of(alloc, bytes).map_err(|_| ScheduleFault::Memory)?;
     read_lines(alloc, lines.as_slice())
-}
-
-#[cfg(test)]
-mod tests {
-    use super::*;
-    use amqp_props::{ExchangeKind, QueueOptions};
-    use fed_journal::place::ExchangeShape;
-    use field_tables::FieldValue;
-    use route_core::Sort;
-    use std::test::Fail;
-
-    #[test]
-    fn reads_a_script(rt: HostRuntime) -> Result<(), Fail> {
-        let script = read(rt.alloc(), b"broker a\r\n# b\n\nflush a\nopen s/b:%2f/s")?;
-        assert_eq!(rt; script.brokers.len(), 1);
-        assert_eq!(rt; script.events.len(), 2);
-        let (line, event) = &script.events[1];
-        assert_eq!(rt; *line, 5);
-        assert!(rt; matches!(event, Event::Open { link } if link.as_str() == "s/b/s"));
-        Ok(())
-    }
-
-    #[test]
-    fn reads_what_clients_do(rt: HostRuntime) -> Result<(), Fail> {
-        let lines =
-            b"consume a 1 q t no-ack prefetch=7\ncancel a 1 t\ndeliver a 1 t\nget a 1 q\nack a 1 18446744073709551615\nreject a 1 2\nrequeue a 1 3\npurge a 1 q\nclose a 9";
-        let script = read(rt.alloc(), lines)?;
-        assert_eq!(rt; script.events.len(), 9);
-        assert!(rt;
-            matches!(
-                &script.events[0].1,
-                Event::Consume {
-                    no_ack: true,
-                    prefetch: 7,
-                    ..
-                }
-            )
-        );
-        assert!(rt;
-            matches!(&script.events[1].1, Event::Cancel { tag, .. } if tag.as_str() == "t")
-        );
-        assert!(rt; matches!(&script.events[2].1, Event::Deliver { .. }));
-        assert!(rt; matches!(&script.events[3].1, Event::Get { no_ack: false, .. }));
-        assert!(rt; matches!(&script.events[4].1, Event::Ack { copy: u64::MAX, .. }));
-        assert!(rt; matches!(&script.events[5].1, Event::Reject { copy: 2, .. }));
-        assert!(rt; matches!(&script.events[6].1, Event::Requeue { copy: 3, .. }));
-        assert!(rt;
-            matches!(&script.events[7].1, Event::Purge { queue, .. } if queue.as_str() == "q")
-        );
-        assert!(rt; matches!(&script.events[8].1, Event::Close { client: 9, .. }));
-        Ok(())
-    }
-
-    #[test]
-    fn reads_exclusive_queues(rt: HostRuntime) -> Result<(), Fail> {
-        let script = read(
-            rt.alloc(),
-            b"declare a 1 queue q durable exclusive\ndeclare a 1 queue r exclusive",
-        )?;
-        assert_eq!(rt; script.events.len(), 2);
-        assert!(rt;
-            matches!(
-                &script.events[0].1,
-                Event::DeclareQueue {
-                    options: QueueOptions {
-                        durable: true,
-                        exclusive: true,
-                        auto_delete: false
-                    },
-                    ..
-                }
-            )
-        );
-        assert!(rt;
-            matches!(
-                &script.events[1].1,
-                Event::DeclareQueue {
-                    options: QueueOptions {
-                        durable: false,
-                        exclusive: true,
-                        auto_delete: false
-                    },
-                    ..
-                }
-            )
-        );
-        Ok(())
-    }
-
-    #[test]
-    fn reads_exchanges_and_bindings(rt: HostRuntime) -> Result<(), Fail> {
-        let lines =
-            b"declare a 1 exchange x topic internal\nbind a 1 queue q x k n=I:-5 m=raw:53000000026869\nunbind a 1 exchange y x -";
-        let script = read(rt.alloc(), lines)?;
-        assert_eq!(rt; script.events.len(), 3);
-        assert!(rt;
-            matches!(
-                &script.events[0].1,
-                Event::DeclareExchange {
-                    shape: ExchangeShape {
-                        kind: ExchangeKind::Topic,
-                        durable: false,
-                        internal: true
-                    },
-                    ..
-                }
-            )
-        );
-        assert!(rt;
-            matches!(&script.events[1].1, Event::Bind { binding, .. }
-            if binding.source.as_str() == "x" && binding.dest.as_str() == "q"
-                && matches!(binding.args.as_table().get("n"), Some(FieldValue::I32(-5)))
-                && matches!(binding.args.as_table().get("m"), Some(FieldValue::Text(text)) if text.as_slice() == b"hi".as_slice()))
-        );
-        assert!(rt;
-            matches!(&script.events[2].1, Event::Unbind { binding, .. }
-            if matches!(binding.sort, Sort::Exchange) && binding.key.as_str() == "")
-        );
-        Ok(())
-    }
-
-    #[test]
-    fn reads_messages(rt: HostRuntime) -> Result<(), Fail> {
-        let lines =
-            b"publish a 1 - q %ff\npublish a 1 x k - persistent header=h=t:1 header=%3d=S:a%20b";
-        let script = read(rt.alloc(), lines)?;
-        assert_eq!(rt; script.events.len(), 2);
-        assert!(rt;
-            matches!(&script.events[0].1, Event::Publish { message, .. }
-            if message.exchange.as_str() == "" && message.body.as_slice() == b"\xff".as_slice()
-                && message.props.headers.is_none() && message.props.delivery_mode.is_none())
-        );
-        assert!(rt;
-            matches!(&script.events[1].1, Event::Publish { message, .. }
-            if message.props.delivery_mode == Some(2)
-                && matches!(&message.props.headers, Some(headers)
-                    if matches!(headers.as_table().get("h"), Some(FieldValue::Bool(true)))
-                        && matches!(headers.as_table().get("="), Some(FieldValue::Text(text)) if text.as_slice() == b"a b".as_slice())))
-        );
-        Ok(())
-    }
-
-    #[test]
-    fn repeats_a_line(rt: HostRuntime) -> Result<(), Fail> {
-        let script = read(rt.alloc(), b"broker a\ntimes 3 publish a 1 - q %ff\nshow")?;
-        assert_eq!(rt; script.events.len(), 4);
-        let (line, event) = &script.events[2];
-        assert_eq!(rt; *line, 2);
-        assert!(rt; matches!(event, Event::Publish { client: 1, .. }));
-        assert!(rt; matches!(&script.events[3], (3, Event::Show)));
-        Ok(())
-    }
-
-    #[test]
-    fn refuses_the_first_bad_line(rt: HostRuntime) {
-        let refused = read(rt.alloc(), b"broker a\nbroker a\nflush %");
-        assert!(rt;
-            matches!(
-                refused,
-                Err(ScheduleFault::Line {
-                    line: 2,
-                    reason: LineReason::Twice
-                })
-            )
-        );
-    }
 }

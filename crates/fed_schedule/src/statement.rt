@@ -2,20 +2,20 @@
 ghost use Rattle.std.specs.Prelude.{◌≡◌, IfOk};
 ghost use Rattle.fed_schedule.specs.Statements.{link_event, client_at, queue_options_of, exchange_shape_of, declare_event, binding_at, binding_event, publish_event, shovel_of, shovel_event, consume_event, cancel_event, deliver_event, get_event, settlement_event, settle_event, purge_event, close_event, client_event, statement_of};
 
-use crate::choices::{exchange_kind_of, sort_of};
-use crate::fields::place_of;
 use crate::keyword::{BindingAction, ClientAction, Keyword, LinkAction, Settlement};
-use crate::links::link_name;
 use crate::messages::message_of;
-use crate::numbers::{client_of, copy_of};
 use crate::options::{consumer_prefetch, has_option};
-use crate::values::arguments_of;
-use crate::words::{is_word, text_of, word_at, words_from};
 use amqp_props::{ExchangeKind, Octets, QueueOptions, Text};
 use fed_journal::event::{Event, Shovel};
 use fed_journal::link::AckMode;
 use fed_journal::place::{ExchangeShape, Place};
 use route_core::{Binding, Sort};
+use schedule_words::choices::{exchange_kind_of, sort_of};
+use schedule_words::fields::place_of;
+use schedule_words::links::link_name;
+use schedule_words::numbers::{client_of, copy_of};
+use schedule_words::values::arguments_of;
+use schedule_words::words::{is_word, text_of, word_at, words_from};
 use std::alloc::{AllocError, Global};
 
 /// What a line states: a broker of the run, or an event.

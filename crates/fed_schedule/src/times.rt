@@ -2,9 +2,9 @@
 ghost use Rattle.std.specs.Prelude.{◌≡◌};
 ghost use Rattle.fed_schedule.specs.Times.{is_times, head_of, line_of, is_bad_head, count_of, is_repeated, is_single};
 
-use crate::numbers::repeat_count_of;
-use crate::words::{is_word, word_at, words_before, words_from};
 use amqp_props::Octets;
+use schedule_words::numbers::repeat_count_of;
+use schedule_words::words::{is_word, word_at, words_before, words_from};
 
 /// Whether the words repeat a line.
 pub(crate) fn is_times(words: &[Octets]) -> bool

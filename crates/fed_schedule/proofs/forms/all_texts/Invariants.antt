@@ -1,6 +1,6 @@
 use Rattle.std.proofs.Common.{◌≡◌, drop}
 use Rattle.std.specs.List.{list_all}
-use Rattle.fed_schedule.specs.Words.{is_text}
+use Rattle.schedule_words.specs.Words.{is_text}
 use Rattle.fed_schedule.proofs.forms.all_texts.Given as goal
 
 -- the rest decides

@@ -1,7 +1,7 @@
 use Rattle.std.proofs.Common.{arith}
 use Rattle.fed_schedule.specs.Reasons.{has_bad_names}
 use Rattle.fed_schedule.proofs.Arguments.{binding_names}
-use Rattle.fed_schedule.proofs.Lengths.{spaced_drop}
+use Rattle.schedule_words.proofs.Lengths.{spaced_drop}
 use Rattle.fed_schedule.proofs.reasons.has_bad_value.Goals as goal
 
 pub has_bad_arguments-requires-clause-named : goal.has_bad_arguments-requires-clause-named

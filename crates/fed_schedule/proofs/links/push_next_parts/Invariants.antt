@@ -1,8 +1,0 @@
-use Rattle.std.proofs.Common.{◌≡◌, ◌++◌, take}
-use Rattle.std.specs.Prelude.{flat_map}
-use Rattle.fed_schedule.specs.Links.{next_part}
-use Rattle.fed_schedule.proofs.links.push_next_parts.Given as goal
-
--- the parts so far are on the page
-abbrev pub invariant-loop-part : goal.invariant-loop-part
-invariant-loop-part l = l.page ≡ l.fn.page ++ flat_map next_part (take l.part-index l.parts)

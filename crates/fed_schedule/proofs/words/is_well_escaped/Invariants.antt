@@ -1,7 +1,0 @@
-use Rattle.std.proofs.Common.{◌≡◌, drop}
-use Rattle.fed_schedule.specs.Words.{is_well_escaped}
-use Rattle.fed_schedule.proofs.words.is_well_escaped.Given as goal
-
--- the rest decides
-abbrev pub invariant-loop-at : goal.invariant-loop-at
-invariant-loop-at l = is_well_escaped (drop l.at l.word) ≡ is_well_escaped l.fn.word

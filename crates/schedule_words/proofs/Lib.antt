@@ -1,0 +1,5 @@
+pub mod Lengths
+pub mod Pieces
+pub mod Spelled
+pub mod Utf8
+pub mod Views

@@ -1,0 +1,6 @@
+pub mod Choices
+pub mod Fields
+pub mod Links
+pub mod Numbers
+pub mod Values
+pub mod Words
