@@ -195,6 +195,15 @@ fault_is place rest Memory h = absurd h
 pub one_fault : (place : ℕ) (rest : List ℕ) (e f : FrameFault) → IsFault place rest e → IsFault place rest f → e ≡ f
 one_fault place rest e f h k = fault_is place rest e h ∙ sym (fault_is place rest f k)
 
+-- the first frame of a text is one, and what follows it
+pub first_frame_same : (f g : Frame) (x y : List ℕ) → IsFrame f → IsFrame g → frame_spelling f ++ x ≡ frame_spelling g ++ y → (f ≡ g) × (x ≡ y)
+first_frame_same f g x y hf hg e =
+    let text = frame_spelling f ++ x in
+    let a = again f (206 ∷ x) text hf (spelled f x text refl) in
+    let b = again g (206 ∷ y) text hg (spelled g y text e) in
+    let tails : 206 ∷ x ≡ 206 ∷ y = sym a.behind ∙ b.behind in
+    (sym a.same ∙ b.same, ap (λ (t : List ℕ). drop 1 t) tails)
+
 -- the same octets are the same frames
 pub frames_same : (a b : List Frame) (r s : List ℕ) → AllByRecursion IsFrame a → AllByRecursion IsFrame b → BeginsNoFrame r → BeginsNoFrame s
     → flat_map frame_spelling a ++ r ≡ flat_map frame_spelling b ++ s → (a ≡ b) × (r ≡ s)
@@ -204,14 +213,11 @@ frames_same [] (g ∷ b) r s ha hb hr hs e =
 frames_same (f ∷ a) [] r s ha hb hr hs e =
     absurd (hs f (flat_map frame_spelling a ++ r) ha.0 (sym e ∙ append_assoc (frame_spelling f) (flat_map frame_spelling a) r))
 frames_same (f ∷ a) (g ∷ b) r s ha hb hr hs e =
-    let text = frame_spelling f ++ (flat_map frame_spelling a ++ r) in
-    let left : text ≡ frame_spelling g ++ (flat_map frame_spelling b ++ s) =
+    let left : frame_spelling f ++ (flat_map frame_spelling a ++ r) ≡ frame_spelling g ++ (flat_map frame_spelling b ++ s) =
     sym (append_assoc (frame_spelling f) (flat_map frame_spelling a) r) ∙ e ∙ append_assoc (frame_spelling g) (flat_map frame_spelling b) s in
-    let x = again f (206 ∷ (flat_map frame_spelling a ++ r)) text ha.0 (spelled f (flat_map frame_spelling a ++ r) text refl) in
-    let y = again g (206 ∷ (flat_map frame_spelling b ++ s)) text hb.0 (spelled g (flat_map frame_spelling b ++ s) text left) in
-    let frame : f ≡ g = sym x.same ∙ y.same in
-    let tails : 206 ∷ (flat_map frame_spelling a ++ r) ≡ 206 ∷ (flat_map frame_spelling b ++ s) = sym x.behind ∙ y.behind in
-    let rest = frames_same a b r s ha.1 hb.1 hr hs (ap (λ (t : List ℕ). drop 1 t) tails) in
+    let first = first_frame_same f g (flat_map frame_spelling a ++ r) (flat_map frame_spelling b ++ s) ha.0 hb.0 left in
+    let rest = frames_same a b r s ha.1 hb.1 hr hs first.1 in
+    let frame : f ≡ g = first.0 in
     (cc (frame, rest.0), rest.1)
 
 stops_begin_none : (rest : List ℕ) → Stops rest → BeginsNoFrame rest

@@ -7,7 +7,6 @@ use Rattle.amqp_frames.specs.declared.fault.FrameFault.{FrameFault}
 use Rattle.amqp_frames.specs.declared.fault.FrameFault.TheVariants.{BadHeader, BadKind, TooLarge, BadEnd, Failed, Memory}
 use Rattle.amqp_frames.specs.declared.stage.Stage.{Stage}
 use Rattle.amqp_frames.specs.declared.stage.Stage.TheVariants as stage
-use Rattle.amqp_frames.specs.declared.frame.TheConstants.{MAX_PAYLOAD, FRAME_END}
 use Rattle.amqp_frames.specs.Frames.{is_kind, IsFrame, unended, frame_spelling, IsUnfinished}
 
 -- "AMQP", 0, 0, 9, 1 (section 4.2.2)
@@ -61,8 +60,8 @@ pub record EndsIn (octet : ℕ) (rest : List ℕ) : Type 0 where
 abbrev pub IsFault : ℕ → List ℕ → FrameFault → Type 0
 IsFault place rest (BadHeader at) = ⊥
 IsFault place rest (BadKind at octet) = (at ≡ place) × (is_kind octet ≡ false) × (more : List ℕ) × (rest ≡ octet ∷ more)
-IsFault place rest (TooLarge at size) = (at ≡ place) × (MAX_PAYLOAD < size) × Announces size rest
-IsFault place rest (BadEnd at octet) = (at ≡ place) × (octet ≢ FRAME_END) × EndsIn octet rest
+IsFault place rest (TooLarge at size) = (at ≡ place) × (131064 < size) × Announces size rest
+IsFault place rest (BadEnd at octet) = (at ≡ place) × (octet ≢ 206) × EndsIn octet rest
 IsFault place rest (Failed at) = ⊥
 IsFault place rest Memory = ⊥
 

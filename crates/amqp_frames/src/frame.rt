@@ -39,7 +39,7 @@ fn frame_head(kind: u8, channel: u16, size: u32) -> [u8; 7]
 #[tactic(auto, using(std::proofs::Common::append_assoc), unfolding(crate::specs::Frames::frame_spelling))]
 pub fn write_frame(frame: &Frame, out: &mut Vec<u8>) -> Result<(), AllocError>
     requires kind { IsTrue (is_kind frame.now.kind) }
-    requires size { length frame.now.payload ≤ MAX_PAYLOAD }
+    requires size { length frame.now.payload ≤ 131064 }
     ensures ok { OnOk result (out.new.items ≡ out.old.items ++ frame_spelling frame.now) }
     ensures err { OnErr result (out.new.items ≡ out.old.items) }
 {

@@ -3,6 +3,7 @@
 ghost use Rattle.std.specs.Prelude.{◌≡◌, ◌++◌, List, ℕ, [], OnOk, OnErr, take, drop, true, false, IfOk, IsTrue, IsErrOf, Ok};
 ghost use Rattle.std.specs.Int.{w16, from_be_bytes};
 ghost use Rattle.field_tables.specs.Reading.{number_at};
+ghost use Rattle.field_tables.specs.Writing.{Appends};
 ghost use Rattle.amqp_methods.specs.Methods.{Call, IsCall, SpellsCall, FitArguments, call_spelling};
 ghost use Rattle.amqp_methods.specs.Rows.{kinds_in, kinds_of, any_copied, connection_rows, channel_rows, exchange_rows, queue_rows, basic_rows, delivery_rows, confirm_rows, tx_rows};
 ghost use Rattle.amqp_methods.specs.View.{call_of};
@@ -360,7 +361,7 @@ macro_rules! write_rows {
 #[tactic(auto, unfolding(crate::specs::View::call_of))]
 fn put_method(method: &Method, out: &mut Vec<u8>) -> Result<(), AllocError>
     requires { FitArguments (call_of method.now) }
-    ensures { OnOk result (out.new.items ≡ out.old.items ++ call_spelling (call_of method.now)) }
+    ensures { Appends result out.old.items out.new.items (call_spelling (call_of method.now)) }
 {
     connection_rows!(channel_rows exchange_rows queue_rows basic_rows delivery_rows confirm_rows tx_rows write_rows method out)
 }
@@ -428,8 +429,8 @@ pub fn read_method(alloc: Global, payload: &[u8]) -> Result<Method, MethodFault>
 
 /// Appends the payload of a method whose arguments have a spelling; after an error `out` is as it was.
 ///
-/// Reserved arguments are written as 0 or empty, and unused bits as 0. The octets are made apart, in one pass, and then
-/// appended. AMQP 0-9-1, 2.3.5.1 "Method Frames" and 4.2.4 "Method Payloads".
+/// Reserved arguments are written as 0 or empty, and unused bits as 0. One pass, straight into `out`, which is cut back
+/// where memory runs out. AMQP 0-9-1, 2.3.5.1 "Method Frames" and 4.2.4 "Method Payloads".
 pub fn write_method(method: &Method, out: &mut Vec<u8>) -> Result<(), AllocError>
     requires { FitArguments (call_of method.now) }
 
@@ -441,7 +442,10 @@ pub fn write_method(method: &Method, out: &mut Vec<u8>) -> Result<(), AllocError
     ensures spells { OnOk result (IsCall (call_of method.now)
         × SpellsCall (call_of method.now) (call_spelling (call_of method.now))) }
 {
-    let mut octets = Vec::new(*out.allocator());
-    put_method(method, &mut octets)?;
-    out.extend_from_slice(&octets)
+    let start = out.len();
+    let written = put_method(method, out);
+    if written.is_err() {
+        out.truncate(start);
+    }
+    written
 }

@@ -7,8 +7,7 @@ ghost use Rattle.amqp_props.specs.ContentHeader.{short_string, field_table, octe
 use crate::properties::Properties;
 use crate::row::with_properties;
 use crate::text::FieldTable;
-use field_tables::Text;
-use field_tables::table_len;
+use field_tables::{Text, table_len};
 
 /// A text and the octet of its length, if there is one.
 fn text_len(text: &Option<Text>) -> usize

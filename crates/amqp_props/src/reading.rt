@@ -12,8 +12,7 @@ use crate::fault::PropsFault;
 use crate::properties::Properties;
 use crate::row::with_properties;
 use crate::text::FieldTable;
-use field_tables::Text;
-use field_tables::{TableFault, read_table};
+use field_tables::{TableFault, Text, read_table};
 use std::alloc::Global;
 
 /// The number of two octets behind so many.

@@ -1,14 +1,13 @@
 //! Content headers as octets.
 
-ghost use Rattle.std.specs.Prelude.{◌≡◌, ◌++◌, ◌≤◌, if◌then◌else◌, option_map, IfSome, OnOk, OnErr};
+ghost use Rattle.std.specs.Prelude.{◌≡◌, ◌++◌, ◌≤◌, if◌then◌else◌, option_map, IfSome, length, take, OnOk, OnErr};
 ghost use Rattle.field_tables.specs.Tables.{IsTable};
 ghost use Rattle.amqp_props.specs.ContentHeader.{property_rows, short_string, field_table, octet, longlong, HasSpelling, HaveSpelling, optional_spelling, values_of, flags_of, values_spelling, header_spelling, IsHeader, IsShort, AreShort};
 
 use crate::properties::Properties;
 use crate::row::with_properties;
 use crate::text::FieldTable;
-use field_tables::Text;
-use field_tables::write_table;
+use field_tables::{Text, write_table};
 use std::alloc::AllocError;
 
 /// The flag of a property, if it is present.
@@ -34,10 +33,12 @@ fn flags_of(props: &Properties) -> u16
     with_properties!(sum_of_flags props)
 }
 
+#[tactic(auto, using(field_tables::proofs::Kept::kept))]
 fn put_text(text: &Option<Text>, out: &mut Vec<u8>) -> Result<(), AllocError>
     requires { IsShort text.now }
-    ensures { OnOk result (IfSome (option_map short_string text.now) HasSpelling
+    ensures ok { OnOk result (IfSome (option_map short_string text.now) HasSpelling
         × (out.new.items ≡ out.old.items ++ optional_spelling (option_map short_string text.now))) }
+    ensures kept { take (length out.old.items) out.new.items ≡ out.old.items }
 {
     if let Some(text) = text {
         let text = text.as_str();
@@ -47,10 +48,12 @@ fn put_text(text: &Option<Text>, out: &mut Vec<u8>) -> Result<(), AllocError>
     Ok(())
 }
 
+#[tactic(auto, using(field_tables::proofs::Kept::kept))]
 fn put_table(table: &Option<FieldTable>, out: &mut Vec<u8>) -> Result<(), AllocError>
     requires { IfSome table.now IsTable }
-    ensures { OnOk result (IfSome (option_map field_table table.now) HasSpelling
+    ensures ok { OnOk result (IfSome (option_map field_table table.now) HasSpelling
         × (out.new.items ≡ out.old.items ++ optional_spelling (option_map field_table table.now))) }
+    ensures kept { take (length out.old.items) out.new.items ≡ out.old.items }
 {
     match table {
         Some(table) => write_table(table.as_table(), out),
@@ -58,9 +61,11 @@ fn put_table(table: &Option<FieldTable>, out: &mut Vec<u8>) -> Result<(), AllocE
     }
 }
 
+#[tactic(auto, using(field_tables::proofs::Kept::kept))]
 fn put_octet(number: &Option<u8>, out: &mut Vec<u8>) -> Result<(), AllocError>
-    ensures { OnOk result (IfSome (option_map octet number.now) HasSpelling
+    ensures ok { OnOk result (IfSome (option_map octet number.now) HasSpelling
         × (out.new.items ≡ out.old.items ++ optional_spelling (option_map octet number.now))) }
+    ensures kept { take (length out.old.items) out.new.items ≡ out.old.items }
 {
     if let Some(number) = *number {
         out.push(number)?;
@@ -68,14 +73,24 @@ fn put_octet(number: &Option<u8>, out: &mut Vec<u8>) -> Result<(), AllocError>
     Ok(())
 }
 
+#[tactic(auto, using(field_tables::proofs::Kept::kept))]
 fn put_long(number: &Option<u64>, out: &mut Vec<u8>) -> Result<(), AllocError>
-    ensures { OnOk result (IfSome (option_map longlong number.now) HasSpelling
+    ensures ok { OnOk result (IfSome (option_map longlong number.now) HasSpelling
         × (out.new.items ≡ out.old.items ++ optional_spelling (option_map longlong number.now))) }
+    ensures kept { take (length out.old.items) out.new.items ≡ out.old.items }
 {
     match *number {
         Some(number) => out.extend_from_slice(&number.to_be_bytes()),
         None => Ok(()),
     }
+}
+
+#[tactic(auto, using(field_tables::proofs::Kept::kept))]
+fn put_octets(octets: &[u8], out: &mut Vec<u8>) -> Result<(), AllocError>
+    ensures ok { OnOk result (out.new.items ≡ out.old.items ++ octets.now) }
+    ensures kept { take (length out.old.items) out.new.items ≡ out.old.items }
+{
+    out.extend_from_slice(octets)
 }
 
 /// What writes a property of a kind.
@@ -105,8 +120,9 @@ macro_rules! put_each {
 #[tactic(auto, unfolding(crate::specs::ContentHeader::values_of))]
 fn put_properties(props: &Properties, out: &mut Vec<u8>) -> Result<(), AllocError>
     requires { AreShort props.now }
-    ensures { OnOk result (HaveSpelling (values_of props.now)
+    ensures ok { OnOk result (HaveSpelling (values_of props.now)
         × (out.new.items ≡ out.old.items ++ values_spelling (values_of props.now))) }
+    ensures kept { take (length out.old.items) out.new.items ≡ out.old.items }
 {
     with_properties!(put_each props out)
 }
@@ -114,13 +130,14 @@ fn put_properties(props: &Properties, out: &mut Vec<u8>) -> Result<(), AllocErro
 #[tactic(auto, unfolding(crate::specs::ContentHeader::payload_of))]
 fn put_header(size: u64, props: &Properties, out: &mut Vec<u8>) -> Result<(), AllocError>
     requires { AreShort props.now }
-    ensures { OnOk result (IsHeader size props.now
+    ensures ok { OnOk result (IsHeader size props.now
         × (out.new.items ≡ out.old.items ++ header_spelling size props.now)) }
+    ensures kept { take (length out.old.items) out.new.items ≡ out.old.items }
 {
-    out.extend_from_slice(&60u16.to_be_bytes())?;
-    out.extend_from_slice(&0u16.to_be_bytes())?;
-    out.extend_from_slice(&size.to_be_bytes())?;
-    out.extend_from_slice(&flags_of(props).to_be_bytes())?;
+    put_octets(&60u16.to_be_bytes(), out)?;
+    put_octets(&0u16.to_be_bytes(), out)?;
+    put_octets(&size.to_be_bytes(), out)?;
+    put_octets(&flags_of(props).to_be_bytes(), out)?;
     put_properties(props, out)?;
     Ok(())
 }
@@ -128,14 +145,17 @@ fn put_header(size: u64, props: &Properties, out: &mut Vec<u8>) -> Result<(), Al
 /// Appends the one spelling of the content header of a body of `size` octets with these properties; after an error
 /// `out` is as it was. `read_header` reads it back whole.
 ///
-/// The octets are made apart, in one pass, and then appended. AMQP 0-9-1, 4.2.6.1 "The Content Header".
+/// One pass, straight into `out`, which is cut back where memory runs out. AMQP 0-9-1, 4.2.6.1 "The Content Header".
 pub fn write_header(size: u64, props: &Properties, out: &mut Vec<u8>) -> Result<(), AllocError>
     requires { AreShort props.now }
     ensures ok { OnOk result (IsHeader size props.now
         × (out.new.items ≡ out.old.items ++ header_spelling size props.now)) }
     ensures err { OnErr result (out.new.items ≡ out.old.items) }
 {
-    let mut octets = Vec::new(*out.allocator());
-    put_header(size, props, &mut octets)?;
-    out.extend_from_slice(&octets)
+    let start = out.len();
+    let written = put_header(size, props, out);
+    if written.is_err() {
+        out.truncate(start);
+    }
+    written
 }

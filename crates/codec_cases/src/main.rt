@@ -61,6 +61,7 @@ fn laws() {
     amqp_content::parts_are_no_commands();
     amqp_content::parts_begin_commands();
     amqp_frames::faults_are_one();
+    amqp_frames::frames_are_apart();
     amqp_frames::frames_are_one();
     amqp_frames::parts_are_short();
     amqp_frames::parts_have_no_fault();

@@ -6,3 +6,4 @@ pub mod Patches
 pub mod SameLoops
 pub mod Values
 pub mod Views
+pub mod Kept

@@ -4,3 +4,4 @@ pub mod Same
 pub mod SameLaws
 pub mod Tables
 pub mod View
+pub mod Writing

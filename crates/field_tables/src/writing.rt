@@ -1,6 +1,7 @@
 //! Field tables as octets.
 
 ghost use Rattle.std.specs.Prelude.{◌≡◌, ◌+◌, ◌-◌, ◌≤◌, ◌<◌, ◌^◌, ◌++◌, ◌∷◌, [], length, take, drop, OnOk, OnErr};
+ghost use Rattle.field_tables.specs.Writing.{Appends};
 ghost use Rattle.std.specs.Int.{w32, to_be_bytes};
 ghost use Rattle.field_tables.specs.Tables.{IsTable, IsCounted, IsName, HasSpelling, HaveSpelling, ArePairs, kind_of as kind_of_field, content_spelling, value_spelling, fields_spelling, pairs_spelling, name_spelling, counted_spelling, table_spelling};
 ghost use Rattle.field_tables.specs.View.{fields_of, pairs_of, field_view, fields_view, pairs_view, table_view};
@@ -33,30 +34,34 @@ fn kind_of(value: &FieldValue) -> Kind
     }
 }
 
+#[tactic(auto, using(crate::proofs::Kept::kept))]
 fn put_octet(octet: u8, out: &mut Vec<u8>) -> Result<(), AllocError>
-    ensures { OnOk result (out.new.items ≡ out.old.items ++ octet ∷ []) }
+    ensures { Appends result out.old.items out.new.items (octet ∷ []) }
 {
     out.push(octet)?;
     Ok(())
 }
 
+#[tactic(auto, using(crate::proofs::Kept::kept))]
 fn put_octets(octets: &[u8], out: &mut Vec<u8>) -> Result<(), AllocError>
-    ensures { OnOk result (out.new.items ≡ out.old.items ++ octets.now) }
+    ensures { Appends result out.old.items out.new.items (octets.now) }
 {
     out.extend_from_slice(octets)
 }
 
+#[tactic(auto, using(crate::proofs::Kept::kept))]
 fn put_counted(octets: &[u8], out: &mut Vec<u8>) -> Result<(), AllocError>
     requires { IsCounted octets.now }
-    ensures { OnOk result (out.new.items ≡ out.old.items ++ counted_spelling octets.now) }
+    ensures { Appends result out.old.items out.new.items (counted_spelling octets.now) }
 {
     out.extend_from_slice(&(octets.len() as u32).to_be_bytes())?;
     out.extend_from_slice(octets)
 }
 
+#[tactic(auto, using(crate::proofs::Kept::kept))]
 fn put_name(name: &str, out: &mut Vec<u8>) -> Result<(), AllocError>
     requires { length name.now < 256 }
-    ensures { OnOk result (out.new.items ≡ out.old.items ++ name_spelling name.now) }
+    ensures { Appends result out.old.items out.new.items (name_spelling name.now) }
 {
     out.push(name.len() as u8)?;
     out.extend_from_slice(name.as_bytes())
@@ -78,20 +83,21 @@ fn set_count(start: usize, out: &mut Vec<u8>)
 }
 
 #[cycle(write)]
+#[tactic(auto, using(crate::proofs::Kept::kept))]
 fn put_value(value: &FieldValue, out: &mut Vec<u8>) -> Result<(), AllocError>
     requires { HasSpelling (field_view value.now) }
-    ensures { OnOk result
-        (out.new.items ≡ out.old.items ++ value_spelling (field_view value.now)) }
+    ensures { Appends result out.old.items out.new.items (value_spelling (field_view value.now)) }
 {
     put_octet(kind_of(value).octet(), out)?;
-    put_content(value, out)
+    put_content(value, out)?;
+    Ok(())
 }
 
 #[cycle(write)]
+#[tactic(auto, using(crate::proofs::Kept::kept))]
 fn put_content(value: &FieldValue, out: &mut Vec<u8>) -> Result<(), AllocError>
     requires { HasSpelling (field_view value.now) }
-    ensures { OnOk result
-        (out.new.items ≡ out.old.items ++ content_spelling (field_view value.now)) }
+    ensures { Appends result out.old.items out.new.items (content_spelling (field_view value.now)) }
 {
     match value {
         FieldValue::Bool(b) => put_octet(u8::from(*b), out),
@@ -115,11 +121,11 @@ fn put_content(value: &FieldValue, out: &mut Vec<u8>) -> Result<(), AllocError>
 }
 
 #[cycle(write)]
+#[tactic(auto, using(crate::proofs::Kept::kept))]
 fn put_fields(values: &Vec<FieldValue>, out: &mut Vec<u8>) -> Result<(), AllocError>
     requires values { HaveSpelling (fields_of (fields_view values.now.items)) }
     requires counted { IsCounted (fields_spelling (fields_of (fields_view values.now.items))) }
-    ensures { OnOk result (out.new.items ≡ out.old.items
-        ++ counted_spelling (fields_spelling (fields_of (fields_view values.now.items)))) }
+    ensures { Appends result out.old.items out.new.items (counted_spelling (fields_spelling (fields_of (fields_view values.now.items)))) }
 {
     let start = out.len();
     out.extend_from_slice(&[0; 4])?;
@@ -131,11 +137,11 @@ fn put_fields(values: &Vec<FieldValue>, out: &mut Vec<u8>) -> Result<(), AllocEr
 }
 
 #[cycle(write)]
+#[tactic(auto, using(crate::proofs::Kept::kept))]
 fn put_pairs(pairs: &Vec<(String, FieldValue)>, out: &mut Vec<u8>) -> Result<(), AllocError>
     requires pairs { ArePairs (pairs_of (pairs_view pairs.now.items)) }
     requires counted { IsCounted (pairs_spelling (pairs_of (pairs_view pairs.now.items))) }
-    ensures { OnOk result (out.new.items ≡ out.old.items
-        ++ table_spelling (pairs_of (pairs_view pairs.now.items))) }
+    ensures { Appends result out.old.items out.new.items (table_spelling (pairs_of (pairs_view pairs.now.items))) }
 {
     let start = out.len();
     out.extend_from_slice(&[0; 4])?;
@@ -149,14 +155,17 @@ fn put_pairs(pairs: &Vec<(String, FieldValue)>, out: &mut Vec<u8>) -> Result<(),
 
 /// Appends the one spelling of a table that has one; after an error `out` is as it was.
 ///
-/// The octets are made apart, in one pass, and then appended. AMQP 0-9-1, 4.2.5.5 "Field Tables".
+/// One pass, straight into `out`, which is cut back where memory runs out. AMQP 0-9-1, 4.2.5.5 "Field Tables".
 pub fn write_table(table: &Table, out: &mut Vec<u8>) -> Result<(), AllocError>
     requires { IsTable (table_view table.now) }
     ensures ok { OnOk result
         (out.new.items ≡ out.old.items ++ table_spelling (table_view table.now)) }
     ensures err { OnErr result (out.new.items ≡ out.old.items) }
 {
-    let mut octets = Vec::new(*out.allocator());
-    put_pairs(&table.pairs, &mut octets)?;
-    out.extend_from_slice(&octets)
+    let start = out.len();
+    let written = put_pairs(&table.pairs, out);
+    if written.is_err() {
+        out.truncate(start);
+    }
+    written
 }

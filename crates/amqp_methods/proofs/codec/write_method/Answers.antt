@@ -11,5 +11,8 @@ is_spelled : {A B : Type 0} (result : Result A B) (m : Method) → FitArguments 
 is_spelled (Ok done) m fit = (call_is m fit, written_spells_call (call_of m) (call_is m fit))
 is_spelled (Err e) m fit = tt
 
-pub returns-clause-spells : goal.returns-clause-spells
-returns-clause-spells c = is_spelled c.extend_from_slice.result c.args.method.now c.requires
+pub returns-then-is_err-clause-spells : goal.returns-then-is_err-clause-spells
+returns-then-is_err-clause-spells c = is_spelled c.put_method-written.result c.args.method.now c.requires
+
+pub returns-else-is_err-clause-spells : goal.returns-else-is_err-clause-spells
+returns-else-is_err-clause-spells c = is_spelled c.put_method-written.result c.args.method.now c.requires

@@ -1,10 +1,11 @@
-use Rattle.std.proofs.Common.{◌≡◌, ◌+◌, [], ◌∷◌, ◌++◌, length, drop, sym, ap, subst, ◌∙◌, arith, rules}
+use Rattle.std.proofs.Common.{◌≡◌, ◌+◌, [], ◌∷◌, ◌++◌, length, take, drop, sym, ap, subst, ◌∙◌, arith, rules}
 use Rattle.std.proofs.lemmas.List.{drop_more, drop_all}
 use Rattle.field_tables.specs.declared.value.FieldValue.{the_lemmas}
 use Rattle.field_tables.specs.Fields.{table}
 use Rattle.field_tables.specs.Tables.{counted_spelling, HasSpelling, fields_spelling, pairs_spelling}
 use Rattle.field_tables.specs.View.{fields_of, pairs_of, field_view, fields_view, pairs_view}
 use Rattle.field_tables.proofs.Patches.{filled, no_value, no_pair, first_pair}
+use Rattle.field_tables.proofs.Kept.{kept_appended, kept_on}
 use Rattle.field_tables.proofs.Views.{view-Table}
 use Rattle.field_tables.proofs.writing.+write.Goals as goal
 
@@ -44,3 +45,10 @@ put_pairs-returns t c =
     filled c.args.out.now.items (pairs_spelling (pairs_of (pairs_view xs))) c.loop-name.out.items c.set_count.new.out.items c.len-start.result at
     (no_pair c.loop-name.out.items _ (drop c.loop-name.name-index xs) none c.loop-name.invariant.0) c.set_count.ensures in
     made ∙ ap (λ ys. c.args.out.now.items ++ counted_spelling (pairs_spelling (pairs_of (pairs_view ys)))) c.deref-name-items.ensures.value
+
+pub put_pairs-returns-in_err-put_value : goal.put_pairs-returns-in_err-put_value
+put_pairs-returns-in_err-put_value t c =
+    let named = kept_appended c.loop-name.out.items _ c.put_name.new.out.items c.in_ok-put_name.ensures in
+    let both = kept_on _ _ _ c.loop-name.invariant.2 named in
+    let all : take (length c.args.out.now.items) c.put_value.new.out.items ≡ c.args.out.now.items = kept_on _ _ _ both c.in_err-put_value.ensures in
+    grind (arith, all, c.from_residual-in_err-put_value.ensures)
