@@ -194,7 +194,7 @@ fn members_inert(items: &[Value]) -> Result<u32, KeyFault>
 }
 
 /// How many keys of a parameter's value are inert.
-fn value_inert(component: Component, value: &Value) -> Result<u32, KeyFault>
+pub fn value_inert(component: Component, value: &Value) -> Result<u32, KeyFault>
     ensures count { IfOk result (λ count. count ≡ parameters.value_inert component (view value.now)) }
     ensures fault { IfErr result (λ fault. fault ≡ KeyFault.Memory) }
 {
@@ -225,7 +225,7 @@ pub fn check_text(alloc: Global, value: &Value, key: &str) -> Result<(), KeyFaul
 }
 
 /// Reads the value of a parameter, which has to be there.
-fn own_value(alloc: Global, component: Component, value: &Value) -> Result<ParameterValue, KeyFault>
+pub fn own_value(alloc: Global, component: Component, value: &Value) -> Result<ParameterValue, KeyFault>
     ensures read { IfOk result (λ meant. meant ≡ parameters.value_of component (parameters.own_value (view value.now))) }
     ensures ok { OnOk result (parameters.own_value_fault component (get (codes "value") (view value.now)) ≡ None) }
     ensures fault { IfErr result (λ fault. fault ≢ KeyFault.Memory

@@ -50,7 +50,7 @@ fn read_pattern(alloc: Global, value: &Value) -> Result<SharedPattern, Refusal>
 
 /// Reads a pattern at the key, which has to be there.
 #[tactic(auto, unfolding(crate::specs::Keys::required_fault))]
-fn pattern_at(alloc: Global, value: &Value, key: &str) -> Result<SharedPattern, KeyFault>
+pub fn pattern_at(alloc: Global, value: &Value, key: &str) -> Result<SharedPattern, KeyFault>
     ensures read { IfOk result (λ pattern. pattern ≡ hosts.text_at key.now (view value.now)) }
     ensures ok { OnOk result (required_fault policies.pattern_refusal key.now (view value.now) ≡ None) }
     ensures fault { IfErr result (λ fault. fault ≢ KeyFault.Memory
@@ -114,7 +114,7 @@ fn apply_word(text: &str) -> Option<Apply>
 
 /// Reads what a policy applies to.
 #[tactic(auto, unfolding(crate::specs::Keys::optional_fault, crate::specs::Policies::apply_refusal))]
-fn apply_at(alloc: Global, value: &Value) -> Result<Apply, KeyFault>
+pub fn apply_at(alloc: Global, value: &Value) -> Result<Apply, KeyFault>
     ensures read { IfOk result (λ apply. apply
         ≡ unwrap_or (value_at policies.apply_at (codes "apply-to") (view value.now)) Apply.All) }
     ensures ok { OnOk result (optional_fault policies.apply_refusal (codes "apply-to") (view value.now) ≡ None) }
@@ -132,7 +132,7 @@ fn apply_at(alloc: Global, value: &Value) -> Result<Apply, KeyFault>
 
 /// Reads a priority.
 #[tactic(auto, unfolding(crate::specs::Keys::optional_fault, crate::specs::Policies::priority_refusal))]
-fn priority_at(alloc: Global, value: &Value) -> Result<i64, KeyFault>
+pub fn priority_at(alloc: Global, value: &Value) -> Result<i64, KeyFault>
     ensures read { IfOk result (λ priority. priority
         ≡ unwrap_or (value_at policies.signed_at (codes "priority") (view value.now)) (pos 0)) }
     ensures ok { OnOk result (optional_fault policies.priority_refusal (codes "priority") (view value.now) ≡ None) }
@@ -150,10 +150,13 @@ fn priority_at(alloc: Global, value: &Value) -> Result<i64, KeyFault>
 
 /// The federation keys of a definition.
 #[derive(Drop)]
-struct Definition {
-    upstream: Option<Text>,
-    upstream_pattern: Option<SharedPattern>,
-    set: Option<Text>,
+pub struct Definition {
+    /// `federation-upstream`: the name of one upstream.
+    pub upstream: Option<Text>,
+    /// `federation-upstream-pattern`: what is searched for in the names of upstreams.
+    pub upstream_pattern: Option<SharedPattern>,
+    /// `federation-upstream-set`: the name of a set of upstreams, or `all`.
+    pub set: Option<Text>,
 }
 
 /// Reads the keys of a definition.
@@ -181,7 +184,7 @@ fn read_definition(alloc: Global, value: &Value) -> Result<Definition, KeyFault>
 
 /// Reads the definition of a policy, which has to be there.
 #[tactic(auto, unfolding(crate::specs::Paths::object_fault))]
-fn definition_at(alloc: Global, value: &Value) -> Result<Definition, KeyFault>
+pub fn definition_at(alloc: Global, value: &Value) -> Result<Definition, KeyFault>
     ensures upstream { IfOk result (λ definition. definition.upstream
         ≡ policies.defined_at (codes "federation-upstream") (view value.now)) }
     ensures pattern { IfOk result (λ definition. definition.upstream_pattern

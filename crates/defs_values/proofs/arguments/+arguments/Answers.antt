@@ -6,7 +6,7 @@ use Rattle.field_tables.specs.Fields.{table}
 use Rattle.field_tables.specs.View.{pairs_of}
 use Rattle.field_tables.proofs.Views.{view-Table}
 use Rattle.defs_values.specs.Arguments.{field_of}
-use Rattle.fed_defs.proofs.arguments.+arguments.Goals as goal
+use Rattle.defs_values.proofs.arguments.+arguments.Goals as goal
 
 pub read_field-returns-in_ok-pairs-in-Object-clause-read : goal.read_field-returns-in_ok-pairs-in-Object-clause-read
 read_field-returns-in_ok-pairs-in-Object-clause-read t c =

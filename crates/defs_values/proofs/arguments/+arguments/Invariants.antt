@@ -2,7 +2,7 @@ use Rattle.std.proofs.Common.{◌≡◌, ◌+◌, ◌*◌, ◌++◌, drop}
 use Rattle.serde_json.specs.View.{items_view, members_view}
 use Rattle.field_tables.specs.View.{fields_view, pairs_view}
 use Rattle.defs_values.specs.Arguments.{items_fields, members_pairs, items_fault, members_fault}
-use Rattle.fed_defs.proofs.arguments.+arguments.Given as goal
+use Rattle.defs_values.proofs.arguments.+arguments.Given as goal
 
 abbrev pub decreases-read_field : goal.decreases-read_field
 decreases-read_field l = 3 * l.levels

@@ -3,7 +3,7 @@ use Rattle.std.proofs.Common.{◌≡◌, ◌+◌, ◌≤◌, drop}
 use Rattle.std.specs.Prelude.{min}
 use Rattle.serde_json.specs.View.{items_view, members_view}
 use Rattle.defs_values.specs.Arguments as arguments
-use Rattle.fed_defs.proofs.arguments.+octets.Given as goal
+use Rattle.defs_values.proofs.arguments.+octets.Given as goal
 
 abbrev pub invariant-items_octets-loop-item : goal.invariant-items_octets-loop-item
 invariant-items_octets-loop-item l = record {
