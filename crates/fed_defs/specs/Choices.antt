@@ -15,7 +15,7 @@ use Rattle.fed_defs.specs.declared.upstream.UpstreamDef.{UpstreamDef}
 use Rattle.fed_defs.specs.declared.federation.Owner.{Owner}
 use Rattle.fed_defs.specs.declared.federation.Choice.{Choice}
 use Rattle.fed_defs.specs.Places.{first_some, first_place}
-use Rattle.fed_defs.specs.Values.{same_text}
+use Rattle.fed_defs.specs.Texts.{same_text}
 
 -- ---- upstreams and sets by name
 

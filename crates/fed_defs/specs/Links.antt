@@ -30,12 +30,13 @@ use Rattle.fed_defs.specs.declared.config.ParameterValue.TheVariants.{Shovel}
 use Rattle.fed_defs.specs.declared.federation.Owner.{Owner}
 use Rattle.fed_defs.specs.declared.federation.Choice.{Choice}
 use Rattle.fed_defs.specs.declared.shovel.ShovelDef.{ShovelDef}
-use Rattle.fed_defs.specs.Values.{same_text, is_reserved}
+use Rattle.fed_defs.specs.Texts.{same_text, is_reserved}
 use Rattle.fed_defs.specs.Words.{word, place_word}
 use Rattle.fed_defs.specs.Policies.{policy_in}
 use Rattle.fed_defs.specs.Places.{first_place, same_place}
 use Rattle.fed_defs.specs.Choices.{policy_choices}
-use Rattle.fed_defs.specs.Shovels.{no_props}
+use Rattle.fed_defs.specs.Properties.{no_props}
+use Rattle.amqp_props.specs.declared.properties.Properties.{Properties}
 
 -- ---- names
 

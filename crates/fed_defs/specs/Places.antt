@@ -9,7 +9,7 @@ use Rattle.amqp_props.specs.declared.link.Place.{Place}
 use Rattle.fed_defs.specs.declared.config.Config.{Config}
 use Rattle.fed_defs.specs.declared.config.BrokerConfig.{BrokerConfig}
 use Rattle.fed_defs.specs.declared.federation.Owner.{Owner}
-use Rattle.fed_defs.specs.Values.{same_text}
+use Rattle.fed_defs.specs.Texts.{same_text}
 
 -- the first value that the items give
 abbrev pub first_some : {A B : Type 0} → (A → Option B) → List A → Option B

@@ -6,7 +6,7 @@ use Rattle.policy_core.specs.declared.policy.ObjectKind.{ObjectKind}
 use Rattle.fed_defs.specs.declared.config.Config.{Config}
 use Rattle.fed_defs.specs.declared.config.VhostConfig.{VhostConfig}
 use Rattle.fed_defs.specs.declared.config.PolicyDef.{PolicyDef}
-use Rattle.fed_defs.specs.Values.{same_text}
+use Rattle.fed_defs.specs.Texts.{same_text}
 
 -- what decides between policies
 abbrev pub rule_of : PolicyDef → Policy

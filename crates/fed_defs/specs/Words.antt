@@ -1,6 +1,6 @@
 -- The words of which link names are made: percent-encoded texts (RFC 3986, section 2.1), each without `/` and `:`.
 use Rattle.std.specs.Prelude.{ℕ, ◌+◌, ◌/◌, ◌%◌, List, [], ◌∷◌, ◌++◌, Bool, ◌||◌, ◌&&◌, if◌then◌else◌, ◌==◌, nat_le, nat_lt, flat_map, codes}
-use Rattle.fed_defs.specs.Values.{same_text}
+use Rattle.fed_defs.specs.Texts.{same_text}
 
 -- the octets that stand for themselves: A-Z a-z 0-9 . _ * # -
 abbrev pub is_plain : ℕ → Bool

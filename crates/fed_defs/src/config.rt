@@ -1,4 +1,5 @@
 //! The configuration of brokers: what their definitions hold.
+
 use crate::lists::{Sequence, SharedPattern};
 use crate::shovel::ShovelDef;
 use crate::upstream::{Overrides, UpstreamDef};

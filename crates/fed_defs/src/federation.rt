@@ -1,4 +1,5 @@
 //! What the definition of links speaks of: who owns a link, and which upstreams it may have.
+
 use crate::upstream::Overrides;
 use amqp_props::{Place, Text};
 

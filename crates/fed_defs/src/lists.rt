@@ -1,5 +1,5 @@
 //! Lists that contracts see as such, and patterns that they see as their texts.
-ghost use Rattle.std.specs.Prelude.{◌≡◌, [], ◌∷◌, ◌++◌, IfOk, OnOk, OnErr};
+ghost use Rattle.std.specs.Prelude.{◌≡◌, [], ◌∷◌, ◌++◌, IfOk, OnOk};
 ghost use Rattle.policy_core.specs.Patterns.{is_found};
 
 use policy_core::Pattern;
@@ -37,7 +37,7 @@ impl<T> Sequence<T> {
     }
 
     /// Puts an item behind the others.
-    pub(crate) fn push(&mut self, item: T) -> Result<(), AllocFailed<T>>
+    pub fn push(&mut self, item: T) -> Result<(), AllocFailed<T>>
         ensures { OnOk result (self.new ≡ self.old ++ item ∷ []) }
     {
         self.inner.push(item)

@@ -1,14 +1,8 @@
 //! The URIs of upstreams and shovels.
-ghost use Rattle.std.specs.Prelude.{◌≡◌, ◌≢◌, [], None, Some, IfOk, OnOk, IfErr, option_map, string_bytes};
-ghost use Rattle.serde_json.specs.View.{view, items_view};
-ghost use Rattle.serde_json.specs.Find.{as_str};
-ghost use Rattle.fed_defs.specs.Uris as uris;
+ghost use Rattle.std.specs.Prelude.{◌≡◌};
 
-use crate::fault::Refusal;
-use crate::value::misfit;
 use amqp_props::Text;
 use amqp_uri::{AmqpUri, UriFault};
-use serde_json::Value;
 use std::alloc::Global;
 use std::marker::Model;
 
@@ -31,8 +25,22 @@ impl Model for UriRead {
 }
 
 impl UriRead {
-    ghost use Rattle.std.specs.Prelude.{◌≡◌};
+    ghost use Rattle.std.specs.Prelude.{◌≡◌, ◌≢◌, None, Some, IfOk, OnOk, IfErr};
+    ghost use Rattle.amqp_uri.specs.Uri.{uri_fault};
     ghost use Rattle.fed_defs.specs.Uris.{IsReadFrom};
+
+    /// Reads a URI (RabbitMQ, "AMQP URI Specification"). The fault is the first in reading order.
+    pub fn read(alloc: Global, text: &str) -> Result<UriRead, UriFault>
+        ensures read { IfOk result (λ uri. uri ≡ text.now) }
+        ensures ok { OnOk result (uri_fault text.now ≡ None) }
+        ensures fault { IfErr result (λ fault. fault ≢ UriFault.Memory → uri_fault text.now ≡ Some fault) }
+    {
+        let uri = AmqpUri::read(alloc, text)?;
+        match Text::from_str(alloc, text) {
+            Ok(text) => Ok(UriRead { text, uri }),
+            Err(_) => Err(UriFault::Memory),
+        }
+    }
 
     /// The text of the URI.
     pub fn text(&self) -> &str
@@ -65,7 +73,7 @@ impl Model for Uris {
 
 impl Uris {
     /// The URIs of a list.
-    pub(crate) fn new(list: Vec<UriRead>) -> Self
+    pub fn new(list: Vec<UriRead>) -> Self
         ensures { result ≡ list.items }
     {
         Uris { list }
@@ -77,78 +85,4 @@ impl Uris {
     {
         self.list.as_slice()
     }
-}
-
-/// Reads a URI.
-#[tactic(auto, unfolding(crate::specs::Uris::uri_refusal))]
-fn read_uri(alloc: Global, value: &Value) -> Result<UriRead, Refusal>
-    ensures read { IfOk result (λ uri. as_str (view value.now) ≡ Some uri) }
-    ensures ok { OnOk result (uris.uri_refusal (view value.now) ≡ None) }
-    ensures refused { IfErr result (λ why. why ≢ Refusal.Memory → uris.uri_refusal (view value.now) ≡ Some why) }
-{
-    let Some(text) = value.as_str() else {
-        return Err(misfit(value));
-    };
-    match AmqpUri::read(alloc, text) {
-        Ok(uri) => {
-            let text = Text::from_str(alloc, text)?;
-            Ok(UriRead { text, uri })
-        }
-        Err(UriFault::Memory) => Err(Refusal::Memory),
-        Err(_) => Err(Refusal::Shape),
-    }
-}
-
-/// Reads the URIs of a list.
-fn read_list(alloc: Global, items: &[Value]) -> Result<Vec<UriRead>, Refusal>
-    ensures read { IfOk result (λ list. list.items ≡ uris.texts_of (items_view items.now)) }
-    ensures ok { OnOk result (uris.items_refusal (items_view items.now) ≡ None) }
-    ensures refused { IfErr result (λ why. why ≢ Refusal.Memory
-        → uris.items_refusal (items_view items.now) ≡ Some why) }
-{
-    let mut list = Vec::new(alloc);
-    for item in items {
-        let uri = read_uri(alloc, item)?;
-        list.push(uri)?;
-    }
-    Ok(list)
-}
-
-/// Reads one URI as a list.
-fn read_one(alloc: Global, value: &Value) -> Result<Vec<UriRead>, Refusal>
-    ensures read { IfOk result (λ list. list.items ≡ uris.text_list (as_str (view value.now))) }
-    ensures ok { OnOk result (uris.uri_refusal (view value.now) ≡ None) }
-    ensures refused { IfErr result (λ why. why ≢ Refusal.Memory → uris.uri_refusal (view value.now) ≡ Some why) }
-{
-    let uri = read_uri(alloc, value)?;
-    let mut list = Vec::new(alloc);
-    list.push(uri)?;
-    Ok(list)
-}
-
-/// Reads the URIs of a list that must not be empty.
-#[tactic(auto, using(crate::proofs::UrisLemmas::filled_list, crate::proofs::UrisLemmas::empty_list))]
-fn read_filled(alloc: Global, items: &[Value]) -> Result<Vec<UriRead>, Refusal>
-    ensures read { IfOk result (λ list. list.items ≡ uris.texts_of (items_view items.now)) }
-    ensures ok { OnOk result (uris.list_refusal (items_view items.now) ≡ None) }
-    ensures refused { IfErr result (λ why. why ≢ Refusal.Memory
-        → uris.list_refusal (items_view items.now) ≡ Some why) }
-{
-    if items.is_empty() {
-        return Err(Refusal::Shape);
-    }
-    read_list(alloc, items)
-}
-
-/// Reads a text or a list of texts, each a URI.
-#[tactic(auto, unfolding(crate::specs::Uris::uris_refusal, crate::specs::Uris::uris_of))]
-pub(crate) fn read_uris(alloc: Global, value: &Value) -> Result<Uris, Refusal>
-    ensures read { IfOk result (λ list. list ≡ uris.uris_of (view value.now)) }
-    ensures ok { OnOk result (uris.uris_refusal (view value.now) ≡ None) }
-    ensures refused { IfErr result (λ why. why ≢ Refusal.Memory → uris.uris_refusal (view value.now) ≡ Some why) }
-{
-    let Some(items) = value.as_array() else {
-        return Ok(Uris::new(read_one(alloc, value)?));
-    };
-    Ok(Uris::new(read_filled(alloc, items.as_slice())?))
 }

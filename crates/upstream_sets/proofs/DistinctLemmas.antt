@@ -8,7 +8,7 @@ use Rattle.std.proofs.lemmas.Map.Keys.{any_passes_from_place}
 use Rattle.std.proofs.lemmas.Option.{slice_get-get_or}
 use Rattle.amqp_props.specs.declared.link.LinkSpec.{LinkSpec}
 use Rattle.fed_defs.specs.declared.config.Config.{Config}
-use Rattle.fed_defs.specs.Values.{same_text}
+use Rattle.fed_defs.specs.Texts.{same_text}
 use Rattle.fed_defs.specs.Links.{is_kept, with_link, with_links, asked_links, links_of}
 use Rattle.upstream_sets.specs.Distinct.{HaveTwoNames}
 

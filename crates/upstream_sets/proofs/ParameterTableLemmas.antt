@@ -15,7 +15,7 @@ use Rattle.fed_defs.specs.declared.config.ParameterValue.TheVariants as values
 use Rattle.fed_defs.specs.declared.config.VhostConfig.{VhostConfig}
 use Rattle.fed_defs.specs.Choices.{upstream_value, set_value, upstream_if, set_if, upstream_named, members_of}
 use Rattle.fed_defs.specs.Places.{first_some}
-use Rattle.fed_defs.specs.Values.{same_text}
+use Rattle.fed_defs.specs.Texts.{same_text}
 use Rattle.upstream_sets.specs.declared.table.Component.{Component}
 use Rattle.upstream_sets.specs.declared.table.Component.TheVariants as components
 use Rattle.upstream_sets.specs.Tables.{Named, is_value_of, is_of, named, with_first, IsTableOf}

@@ -7,7 +7,7 @@ use Rattle.fed_defs.specs.declared.config.ParameterDef.{ParameterDef}
 use Rattle.fed_defs.specs.declared.config.ParameterValue.{ParameterValue}
 use Rattle.fed_defs.specs.declared.config.ParameterValue.TheVariants.{Upstream, Set}
 use Rattle.fed_defs.specs.contracts.config.ParameterDef as contracts
-use Rattle.fed_defs.specs.Values.{same_text}
+use Rattle.fed_defs.specs.Texts.{same_text}
 use Rattle.upstream_sets.specs.declared.table.Component.{Component}
 use Rattle.upstream_sets.specs.declared.table.Component.TheVariants as component
 

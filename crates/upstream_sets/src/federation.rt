@@ -1,7 +1,7 @@
 //! The links of federated exchanges and queues.
 ghost use Rattle.std.specs.Prelude.{◌≡◌, ◌<◌, length, map, flat_map, unwrap_or, IfOk, OnOk, Err};
 ghost use Rattle.fed_defs.specs.Places.{same_place};
-ghost use Rattle.fed_defs.specs.Values.{is_reserved};
+ghost use Rattle.fed_defs.specs.Texts.{is_reserved};
 ghost use Rattle.fed_defs.specs.Links as links;
 ghost use Rattle.fed_defs.specs.Links.{most_links, with_links};
 

@@ -2,8 +2,6 @@
 #![tactic(auto)]
 
 mod choices;
-#[cfg(test)]
-mod export_tests;
 mod fault;
 mod federation;
 mod kept;
@@ -12,8 +10,6 @@ mod name;
 mod places;
 mod scope;
 mod table;
-#[cfg(test)]
-mod tests;
 
 pub use fault::LinksFault;
 pub use kept::MAX_LINKS;

@@ -33,11 +33,11 @@ impl Name {
     }
 
     /// The name as a text.
-    fn into_text(self) -> Text
-        ensures { result ≡ self }
+    fn into_text(self, alloc: Global) -> Result<Text, AllocError>
+        ensures { IfOk result (λ text. text ≡ self) }
     {
         let Name { text } = self;
-        Text::new(text)
+        Text::new(alloc, text)
     }
 
     /// Appends a text as it is.
@@ -146,7 +146,7 @@ pub(crate) fn federation_name(
     name.push_word(upstream.as_str())?;
     name.push("/")?;
     name.push_word(upstream_object.as_str())?;
-    Ok(name.into_text())
+    name.into_text(alloc)
 }
 
 /// The name of a shovel's link.
@@ -159,5 +159,5 @@ pub(crate) fn shovel_name(alloc: Global, owner: &Owner, shovel: &Text) -> Result
     name.push_owner(owner)?;
     name.push("/")?;
     name.push_word(shovel.as_str())?;
-    Ok(name.into_text())
+    name.into_text(alloc)
 }

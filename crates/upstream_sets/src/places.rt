@@ -1,6 +1,6 @@
 //! The places of the run that URIs name.
 ghost use Rattle.std.specs.Prelude.{◌≡◌, IfOk, position};
-ghost use Rattle.fed_defs.specs.Values.{same_text};
+ghost use Rattle.fed_defs.specs.Texts.{same_text};
 ghost use Rattle.fed_defs.specs.Places as places;
 
 use amqp_props::{Place, Text};

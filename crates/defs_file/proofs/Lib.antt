@@ -1,0 +1,3 @@
+pub mod AssemblyLemmas
+pub mod KeptFiles
+pub mod Utf8Lemmas

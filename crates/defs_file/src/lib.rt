@@ -1,0 +1,8 @@
+//! Definitions files as RabbitMQ exports them.
+#![tactic(auto)]
+
+mod assembly;
+mod definitions;
+mod kept_text;
+
+pub use definitions::Definitions;

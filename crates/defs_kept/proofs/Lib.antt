@@ -1,0 +1,3 @@
+pub mod KeptItems
+pub mod KeptLemmas
+pub mod KeptValues

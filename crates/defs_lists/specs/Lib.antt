@@ -1,0 +1,10 @@
+pub mod Bindings
+pub mod Clusters
+pub mod Exchanges
+pub mod Lists
+pub mod Names
+pub mod ParameterItems
+pub mod PlacedItems
+pub mod PolicyItems
+pub mod Queues
+pub mod Vhosts

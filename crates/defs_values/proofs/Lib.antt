@@ -1,0 +1,3 @@
+pub mod OctetLemmas
+pub mod PatternLemmas
+pub mod UrisLemmas

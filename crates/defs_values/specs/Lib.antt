@@ -1,0 +1,12 @@
+pub mod Arguments
+pub mod Faults
+pub mod Inert
+pub mod Keys
+pub mod Parameters
+pub mod Paths
+pub mod Policies
+pub mod Shovels
+pub mod Texts
+pub mod Upstreams
+pub mod Uris
+pub mod Values

@@ -1,7 +1,0 @@
--- Each virtual host has its share of the items so far.
-use Rattle.std.proofs.Common.{◌≡◌}
-use Rattle.fed_defs.specs.PlacedItems.{placed_in_each}
-use Rattle.fed_defs.proofs.placed.distribute.Given as goal
-
-abbrev pub invariant-loop-p : goal.invariant-loop-p
-invariant-loop-p g l = l.lists.items ≡ placed_in_each l.vhosts l.yielded

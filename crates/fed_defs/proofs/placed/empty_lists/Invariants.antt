@@ -1,7 +1,0 @@
--- There is a list for each virtual host so far.
-use Rattle.std.proofs.Common.{◌≡◌, [], take}
-use Rattle.fed_defs.specs.PlacedItems.{placed_in_each}
-use Rattle.fed_defs.proofs.placed.empty_lists.Given as goal
-
-abbrev pub invariant-loop : goal.invariant-loop
-invariant-loop g l = l.lists.items ≡ placed_in_each (take l.index l.vhosts) []
