@@ -128,7 +128,7 @@ fn keep_bindings(
 
 /// The kept configuration of a file in which these objects are passed over.
 #[tactic(auto, unfolding(crate::specs::Kept::kept_beside))]
-fn kept_beside(alloc: Global, passed: &Objects, value: &Value) -> Result<Value, AllocError>
+pub fn kept_beside(alloc: Global, passed: &Objects, value: &Value) -> Result<Value, AllocError>
     ensures { IfOk result (λ v. view v ≡ kept.kept_beside passed.now (view value.now)) }
 {
     let mut members = Map::new(alloc);

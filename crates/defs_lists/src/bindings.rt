@@ -17,7 +17,7 @@ use fed_defs::BindingDef;
 use crate::exchanges::is_predeclared;
 use defs_values::fault::{KeyFault, Refusal};
 use defs_values::inert::add;
-use defs_values::keys::{filled_at, refused, text_at, value_of};
+use defs_values::keys::{refused, text_at, value_of};
 use crate::names::{Name, Names};
 use defs_values::paths::{at_item, in_item};
 use crate::placed::Placed;
@@ -90,6 +90,27 @@ fn ends_of(alloc: Global, value: &Value) -> Result<Ends, AllocError>
     })
 }
 
+/// Whether the binding names its virtual host by a text, or names none.
+fn has_vhost(value: &Value) -> bool
+    ensures { result ≡ bindings.has_vhost (get (codes "vhost") (view value.now)) }
+{
+    match value_of(value, "vhost") {
+        Some(found) => found.as_str().is_some(),
+        None => true,
+    }
+}
+
+/// Whether the binding names one of these objects.
+#[tactic(auto, unfolding(crate::specs::Bindings::names_one))]
+fn names_one(passed: &Objects, ends: &Ends, value: &Value) -> bool
+    requires source { ends.now.source ≡ named_at (codes "source") (view value.now) }
+    requires destination { ends.now.destination ≡ named_at (codes "destination") (view value.now) }
+    ensures { result ≡ bindings.names_one passed.now (view value.now) }
+{
+    passed.exchanges.has(&ends.source)
+        || leads_among(passed, &ends.destination, destination_of(value))
+}
+
 /// Whether the binding is passed over.
 #[tactic(auto, unfolding(crate::specs::Bindings::is_passed_binding))]
 fn is_passed_binding(passed: &Objects, ends: &Ends, value: &Value) -> bool
@@ -97,8 +118,7 @@ fn is_passed_binding(passed: &Objects, ends: &Ends, value: &Value) -> bool
     requires destination { ends.now.destination ≡ named_at (codes "destination") (view value.now) }
     ensures { result ≡ bindings.is_passed_binding passed.now (view value.now) }
 {
-    passed.exchanges.has(&ends.source)
-        || leads_among(passed, &ends.destination, destination_of(value))
+    has_vhost(value) && names_one(passed, ends, value)
 }
 
 /// Whether the item is a binding that is passed over.
@@ -186,7 +206,7 @@ fn read_front(alloc: Global, vhosts: &Names, value: &Value) -> Result<Front, Key
         → bindings.binding_ends_fault vhosts.now (view value.now) ≡ Some fault) }
 {
     let vhost = own_vhost(alloc, vhosts, value)?;
-    let source = filled_at(alloc, value, "source")?;
+    let source = text_at(alloc, value, "source")?;
     let destination = text_at(alloc, value, "destination")?;
     Ok(Front {
         vhost,
