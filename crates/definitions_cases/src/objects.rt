@@ -47,7 +47,11 @@ fn tell_binding(rt: &HostRuntime, binding: &BindingDef) -> Result<()> {
     let mut octets = Vec::new(rt.alloc());
     write_table(binding.args.as_table(), &mut octets)?;
     let args = hex::encode(rt.alloc(), octets.as_slice())?;
-    let kind = if binding.to_exchange { "exchange" } else { "queue" };
+    let kind = if binding.to_exchange {
+        "exchange"
+    } else {
+        "queue"
+    };
     println!(rt;
         "  binding {} {kind} {} key {:?} {args}",
         binding.source.as_str(),

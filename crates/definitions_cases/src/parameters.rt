@@ -1,6 +1,6 @@
 //! What upstreams, sets of upstreams and shovels say.
 use crate::objects::text_or_none;
-use amqp_props::write_header;
+use amqp_props::{SourceAt, TargetAt, write_header};
 use anyhow::Result;
 use fed_defs::{Overrides, ParameterDef, ParameterValue, ShovelDef, UpstreamDef, Uris};
 
@@ -62,11 +62,45 @@ pub fn tell_upstream(rt: &HostRuntime, upstream: &UpstreamDef) -> Result<()> {
     tell_overrides(rt, &upstream.own)
 }
 
+/// What a shovel takes from.
+fn tell_source(rt: &HostRuntime, source: &SourceAt) -> Result<()> {
+    match source {
+        SourceAt::Queue(queue) => println!(rt; "    from queue {}", queue.as_str())?,
+        SourceAt::Exchange { name, key } => {
+            println!(rt;
+                "    from exchange {} key {:?}",
+                name.as_str(),
+                key.as_str()
+            )?
+        }
+        _ => println!(rt; "    from the end of a federation link")?,
+    }
+    Ok(())
+}
+
+/// What a shovel publishes to.
+fn tell_target(rt: &HostRuntime, target: &TargetAt) -> Result<()> {
+    match target {
+        TargetAt::Queue(queue) => println!(rt; "    to queue {}", queue.as_str())?,
+        TargetAt::Exchange { name, key } => {
+            println!(rt;
+                "    to exchange {} key {}",
+                name.as_str(),
+                text_or_none(key)
+            )?
+        }
+        TargetAt::Original => println!(rt; "    to the exchange and key of each message")?,
+        _ => println!(rt; "    to the end of a federation link")?,
+    }
+    Ok(())
+}
+
 /// A shovel; its properties are told as AMQP spells a content header with them.
 pub fn tell_shovel(rt: &HostRuntime, shovel: &ShovelDef) -> Result<()> {
     tell_uris(rt, "src-uri", &shovel.sources)?;
     tell_uris(rt, "dest-uri", &shovel.targets)?;
-    println!(rt; "    from {:?} to {:?}", shovel.source_at, shovel.target_at)?;
+    tell_source(rt, &shovel.source_at)?;
+    tell_target(rt, &shovel.target_at)?;
     let mut octets = Vec::new(rt.alloc());
     write_header(0, &shovel.props, &mut octets)?;
     let header = hex::encode(rt.alloc(), octets.as_slice())?;
