@@ -9,22 +9,22 @@ ghost use Rattle.defs_values.specs.Arguments.{arguments_of};
 ghost use Rattle.defs_values.specs.Keys.{value_at, optional_fault};
 ghost use Rattle.defs_lists.specs.Queues.{named_at};
 
-use amqp_props::{FieldTable, Text};
-use serde_json::Value;
-use std::alloc::{AllocError, Global};
-use defs_values::arguments::arguments_at;
-use fed_defs::BindingDef;
 use crate::exchanges::is_predeclared;
+use crate::names::{Name, Names};
+use crate::placed::Placed;
+use crate::queues::named_at;
+use crate::vhosts::own_vhost;
+use amqp_props::{FieldTable, Text};
+use defs_values::arguments::arguments_at;
 use defs_values::fault::{KeyFault, Refusal};
 use defs_values::inert::add;
 use defs_values::keys::{refused, text_at, value_of};
-use crate::names::{Name, Names};
 use defs_values::paths::{at_item, in_item};
-use crate::placed::Placed;
-use crate::queues::named_at;
 use defs_values::settings::short_text_at;
 use defs_values::value::{is_word, misfit};
-use crate::vhosts::own_vhost;
+use fed_defs::BindingDef;
+use serde_json::Value;
+use std::alloc::{AllocError, Global};
 
 /// The names of queues and exchanges.
 #[derive(Drop)]
@@ -122,11 +122,7 @@ fn is_passed_binding(passed: &Objects, ends: &Ends, value: &Value) -> bool
 }
 
 /// Whether the item is a binding that is passed over.
-pub fn is_passed_item(
-    alloc: Global,
-    passed: &Objects,
-    value: &Value,
-) -> Result<bool, AllocError>
+pub fn is_passed_item(alloc: Global, passed: &Objects, value: &Value) -> Result<bool, AllocError>
     ensures { IfOk result (λ passes. passes ≡ bindings.is_passed_binding passed.now (view value.now)) }
 {
     let ends = ends_of(alloc, value)?;
