@@ -9,13 +9,13 @@ ghost use Rattle.field_tables.specs.Tables.{max_depth, table_spelling};
 ghost use Rattle.field_tables.specs.View.{field_view, fields_view, pairs_view, pairs_of, table_view};
 ghost use Rattle.defs_values.specs.Arguments as arguments;
 
+use crate::fault::{KeyFault, Refusal};
+use crate::keys::value_of;
+use crate::value::misfit;
 use amqp_props::{FieldTable, Text};
 use field_tables::{FieldValue, Table};
 use serde_json::{Map, Value};
 use std::alloc::{AllocError, Global};
-use crate::fault::{KeyFault, Refusal};
-use crate::keys::value_of;
-use crate::value::misfit;
 
 /// A fault of what is looked at.
 fn here(alloc: Global, why: Refusal) -> KeyFault

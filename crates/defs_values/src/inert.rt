@@ -3,11 +3,11 @@ ghost use Rattle.std.specs.Prelude.{◌≡◌, ◌+◌, IfOk, IfErr};
 ghost use Rattle.serde_json.specs.View.{view, members_view};
 ghost use Rattle.defs_values.specs.Inert as inert;
 
-use serde_json::{Map, Value};
 use crate::fault::KeyFault;
 use crate::keys::value_of;
 use crate::settings::has_key;
 use crate::value::is_word;
+use serde_json::{Map, Value};
 
 /// What the keys of an object belong to.
 #[derive(Clone, Copy, Debug, PartialEq, Eq)]

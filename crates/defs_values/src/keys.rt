@@ -8,15 +8,15 @@ ghost use Rattle.defs_values.specs.Keys.{value_at, optional_fault, required_faul
 ghost use Rattle.defs_values.specs.Shovels as shovels;
 ghost use Rattle.defs_values.specs.Texts as hosts;
 
-use amqp_props::{AckMode, Text};
-use serde_json::Value;
-use std::alloc::Global;
 use crate::fault::{KeyFault, Refusal};
-use fed_defs::Uris;
-use crate::uris::read_uris;
-use crate::value::{read_mode, read_name, read_number, is_word, misfit};
 use crate::props::short_text_refusal;
 use crate::setting::read_short_text;
+use crate::uris::read_uris;
+use crate::value::{is_word, misfit, read_mode, read_name, read_number};
+use amqp_props::{AckMode, Text};
+use fed_defs::Uris;
+use serde_json::Value;
+use std::alloc::Global;
 
 /// The value of the key, where it stands there.
 pub fn value_of<'v>(value: &'v Value, key: &str) -> Option<&'v Value>

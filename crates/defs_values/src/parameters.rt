@@ -6,16 +6,16 @@ ghost use Rattle.defs_values.specs.Parameters as parameters;
 ghost use Rattle.defs_values.specs.Keys.{required_fault};
 ghost use Rattle.defs_values.specs.Paths.{item_fault};
 
-use crate::shovel;
-use serde_json::Value;
-use std::alloc::Global;
-use fed_defs::{ParameterValue, SetMember, Sequence};
 use crate::fault::{KeyFault, Refusal};
 use crate::inert::{KeySet, add, inert_of, shovel_inert};
 use crate::keys::{refused, text_at, value_of};
 use crate::paths::{at_item, below, in_item};
-use crate::upstream::{read_overrides, self};
+use crate::shovel;
+use crate::upstream::{self, read_overrides};
 use crate::value::{is_word, misfit};
+use fed_defs::{ParameterValue, Sequence, SetMember};
+use serde_json::Value;
+use std::alloc::Global;
 
 /// The components whose parameters have a meaning.
 #[derive(Clone, Copy, Debug, PartialEq, Eq)]
@@ -225,7 +225,11 @@ pub fn check_text(alloc: Global, value: &Value, key: &str) -> Result<(), KeyFaul
 }
 
 /// Reads the value of a parameter, which has to be there.
-pub fn own_value(alloc: Global, component: Component, value: &Value) -> Result<ParameterValue, KeyFault>
+pub fn own_value(
+    alloc: Global,
+    component: Component,
+    value: &Value,
+) -> Result<ParameterValue, KeyFault>
     ensures read { IfOk result (λ meant. meant ≡ parameters.value_of component (parameters.own_value (view value.now))) }
     ensures ok { OnOk result (parameters.own_value_fault component (get (codes "value") (view value.now)) ≡ None) }
     ensures fault { IfErr result (λ fault. fault ≢ KeyFault.Memory

@@ -2,9 +2,9 @@
 ghost use Rattle.std.specs.Prelude.{◌≡◌, ◌≢◌, IfOk};
 ghost use Rattle.defs_values.specs.Paths as paths;
 
+use crate::fault::{KeyFault, Refusal};
 use amqp_props::Text;
 use std::alloc::{AllocError, Global};
-use crate::fault::{KeyFault, Refusal};
 
 /// The path of an item.
 #[tactic(auto, unfolding(crate::specs::Paths::item_path))]

@@ -6,16 +6,16 @@ ghost use Rattle.defs_values.specs.Policies as policies;
 ghost use Rattle.defs_values.specs.Texts as hosts;
 ghost use Rattle.defs_values.specs.Keys.{value_at, optional_fault, required_fault};
 
-use amqp_props::Text;
-use policy_core::{Apply, Pattern, PatternFault};
-use serde_json::Value;
-use std::alloc::Global;
 use crate::fault::{KeyFault, Refusal};
 use crate::keys::{refused, text_at, value_of};
-use fed_defs::SharedPattern;
 use crate::paths::below;
 use crate::settings::short_text_at;
 use crate::value::{is_word, misfit};
+use amqp_props::Text;
+use fed_defs::SharedPattern;
+use policy_core::{Apply, Pattern, PatternFault};
+use serde_json::Value;
+use std::alloc::Global;
 
 /// Builds a pattern.
 #[tactic(auto, using(crate::proofs::PatternLemmas::bad_pattern, crate::proofs::PatternLemmas::good_pattern))]

@@ -6,12 +6,12 @@ ghost use Rattle.defs_values.specs.Values as values;
 ghost use Rattle.defs_values.specs.Shovels as shovels;
 ghost use Rattle.defs_values.specs.Keys.{value_at};
 
-use amqp_props::{Properties, Text};
-use serde_json::{Map, Value};
-use std::alloc::{AllocError, Global};
 use crate::fault::Refusal;
 use crate::keys::value_of;
 use crate::value::{is_word, misfit};
+use amqp_props::{Properties, Text};
+use serde_json::{Map, Value};
+use std::alloc::{AllocError, Global};
 
 /// Why the value is refused as a text.
 #[tactic(auto, unfolding(crate::specs::Shovels::short_text_refusal))]

@@ -4,11 +4,11 @@ ghost use Rattle.serde_json.specs.View.{view};
 ghost use Rattle.serde_json.specs.Find.{as_str, as_bool};
 ghost use Rattle.defs_values.specs.Shovels as shovels;
 
+use crate::fault::Refusal;
+use crate::value::{is_word, misfit};
 use amqp_props::{DeleteAfter, Text};
 use serde_json::Value;
 use std::alloc::Global;
-use crate::fault::Refusal;
-use crate::value::{is_word, misfit};
 
 /// Reads a truth value.
 #[tactic(auto, unfolding(crate::specs::Shovels::flag_refusal))]

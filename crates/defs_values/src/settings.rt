@@ -7,13 +7,13 @@ ghost use Rattle.defs_values.specs.Shovels as shovels;
 ghost use Rattle.defs_values.specs.Keys.{value_at, optional_fault};
 ghost use Rattle.defs_values.specs.Shovels.{value_with, value_without, fault_with, fault_without};
 
-use amqp_props::{DeleteAfter, Text};
-use serde_json::Value;
-use std::alloc::Global;
 use crate::fault::KeyFault;
 use crate::keys::{number_at, refused, value_of};
 use crate::props::props_refusal;
 use crate::setting::{check_protocol, read_delete, read_exchange, read_flag, read_short_text};
+use amqp_props::{DeleteAfter, Text};
+use serde_json::Value;
+use std::alloc::Global;
 
 /// Whether the key stands in the object.
 pub fn has_key(value: &Value, key: &str) -> bool
@@ -41,11 +41,7 @@ pub fn flag_at(alloc: Global, value: &Value, key: &str) -> Result<Option<bool>, 
 
 /// Reads when the shovel removes itself at the key.
 #[tactic(auto, unfolding(crate::specs::Keys::optional_fault))]
-pub fn delete_at(
-    alloc: Global,
-    value: &Value,
-    key: &str,
-) -> Result<Option<DeleteAfter>, KeyFault>
+pub fn delete_at(alloc: Global, value: &Value, key: &str) -> Result<Option<DeleteAfter>, KeyFault>
     ensures read { IfOk result (λ found. found ≡ value_at shovels.delete_at key.now (view value.now)) }
     ensures ok { OnOk result (optional_fault shovels.delete_refusal key.now (view value.now) ≡ None) }
     ensures fault { IfErr result (λ fault. fault ≢ KeyFault.Memory
@@ -79,11 +75,7 @@ pub fn exchange_at(alloc: Global, value: &Value, key: &str) -> Result<Option<Tex
 
 /// Reads a text at the key.
 #[tactic(auto, unfolding(crate::specs::Keys::optional_fault))]
-pub fn short_text_at(
-    alloc: Global,
-    value: &Value,
-    key: &str,
-) -> Result<Option<Text>, KeyFault>
+pub fn short_text_at(alloc: Global, value: &Value, key: &str) -> Result<Option<Text>, KeyFault>
     ensures read { IfOk result (λ found. found ≡ value_at as_str key.now (view value.now)) }
     ensures ok { OnOk result (optional_fault shovels.short_text_refusal key.now (view value.now) ≡ None) }
     ensures fault { IfErr result (λ fault. fault ≢ KeyFault.Memory

@@ -9,16 +9,19 @@ ghost use Rattle.defs_values.specs.Upstreams.{most_prefetch};
 ghost use Rattle.defs_values.specs.Values.{number_in};
 ghost use Rattle.defs_values.specs.Shovels.{shovel_of, shovel_fault, value_with, value_without};
 
-use amqp_props::{AckMode, DeleteAfter, Properties, SourceAt, TargetAt, Text};
-use serde_json::Value;
-use std::alloc::{AllocError, Global};
 use crate::fault::{KeyFault, Refusal, ValueFault};
 use crate::keys::{mode_at, number_at, refused, uris_at, value_of};
 use crate::props::props_of;
-use crate::settings::{check_props_at, check_props_without, check_protocol_at, delete_at, delete_without, exchange_at, flag_at, flag_without, has_key, prefetch_without, text_with};
+use crate::settings::{
+    check_props_at, check_props_without, check_protocol_at, delete_at, delete_without, exchange_at,
+    flag_at, flag_without, has_key, prefetch_without, text_with,
+};
 use crate::upstream::{MOST_DELAY, MOST_PREFETCH, as_short};
-use fed_defs::{Uris, ShovelDef, no_props};
 use crate::value::{misfit, read_name};
+use amqp_props::{AckMode, DeleteAfter, Properties, SourceAt, TargetAt, Text};
+use fed_defs::{ShovelDef, Uris, no_props};
+use serde_json::Value;
+use std::alloc::{AllocError, Global};
 
 /// What is read up to `dest-add-forward-headers`.
 #[derive(Drop)]

@@ -7,12 +7,12 @@ ghost use Rattle.defs_values.specs.Keys.{named, value_at};
 ghost use Rattle.defs_values.specs.Values.{IsAtMost, mode_at, number_in};
 ghost use Rattle.defs_values.specs.Upstreams.{most_hops, most_prefetch, most_delay, overrides_of, overrides_fault, upstream_of, upstream_fault};
 
-use amqp_props::{AckMode, Text};
-use serde_json::Value;
-use std::alloc::Global;
 use crate::fault::{KeyFault, ValueFault};
 use crate::keys::{mode_at, name_at, number_at, uris_at};
+use amqp_props::{AckMode, Text};
 use fed_defs::{Overrides, UpstreamDef};
+use serde_json::Value;
+use std::alloc::Global;
 
 /// The greatest `prefetch-count`.
 pub const MOST_PREFETCH: u64 = 65_535;

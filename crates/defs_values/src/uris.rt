@@ -4,13 +4,13 @@ ghost use Rattle.serde_json.specs.View.{view, items_view};
 ghost use Rattle.serde_json.specs.Find.{as_str};
 ghost use Rattle.defs_values.specs.Uris as uris;
 
-use amqp_props::Text;
-use amqp_uri::UriFault;
-use serde_json::Value;
-use std::alloc::Global;
 use crate::fault::Refusal;
 use crate::value::misfit;
+use amqp_props::Text;
+use amqp_uri::UriFault;
 use fed_defs::{UriRead, Uris};
+use serde_json::Value;
+use std::alloc::Global;
 
 /// Reads a URI.
 #[tactic(auto, unfolding(crate::specs::Uris::uri_refusal))]

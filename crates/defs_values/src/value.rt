@@ -5,10 +5,10 @@ ghost use Rattle.serde_json.specs.Find.{as_str};
 ghost use Rattle.defs_values.specs.Values as values;
 ghost use Rattle.fed_defs.specs.Texts as texts;
 
+use crate::fault::Refusal;
 use amqp_props::{AckMode, Text};
 use serde_json::Value;
 use std::alloc::Global;
-use crate::fault::Refusal;
 
 /// Why a value of another kind is refused.
 pub fn misfit(value: &Value) -> Refusal

@@ -1,11 +1,10 @@
 //! The configuration of brokers: what their definitions hold.
 
-
-use amqp_props::{ExchangeKind, FieldTable, QueueOptions, Text};
-use policy_core::Apply;
 use crate::lists::{Sequence, SharedPattern};
 use crate::shovel::ShovelDef;
 use crate::upstream::{Overrides, UpstreamDef};
+use amqp_props::{ExchangeKind, FieldTable, QueueOptions, Text};
+use policy_core::Apply;
 
 /// The brokers of a run, in their order.
 #[derive(Drop)]

@@ -1,8 +1,7 @@
 //! What the definition of links speaks of: who owns a link, and which upstreams it may have.
 
-
-use amqp_props::{Place, Text};
 use crate::upstream::Overrides;
+use amqp_props::{Place, Text};
 
 /// The place whose configuration sets a link, and the name by which the run knows its broker.
 #[derive(Drop)]

@@ -2,8 +2,8 @@
 ghost use Rattle.std.specs.Prelude.{◌≡◌, None};
 ghost use Rattle.fed_defs.specs.Properties.{no_props};
 
-use amqp_props::{AckMode, DeleteAfter, Properties, SourceAt, TargetAt};
 use crate::uris::Uris;
+use amqp_props::{AckMode, DeleteAfter, Properties, SourceAt, TargetAt};
 
 /// A shovel (RabbitMQ, the parameter `shovel`).
 #[derive(Debug, Drop)]

@@ -1,8 +1,7 @@
 //! Upstreams, and the members of sets, which override them.
 
-
-use amqp_props::{AckMode, Text};
 use crate::uris::Uris;
+use amqp_props::{AckMode, Text};
 
 /// What an upstream, or the member of a set of upstreams, says of its links.
 #[derive(Debug, Drop)]

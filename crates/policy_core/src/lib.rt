@@ -3,8 +3,6 @@
 
 mod pattern;
 mod policy;
-#[cfg(test)]
-mod tests;
 
 pub use pattern::{Pattern, PatternFault};
 pub use policy::{Apply, ObjectKind, PolicyText, choose};
