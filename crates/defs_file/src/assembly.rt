@@ -4,12 +4,12 @@ ghost use Rattle.defs_lists.specs.PlacedItems.{AreDistinct, host_config};
 ghost use Rattle.defs_lists.specs.Vhosts.{AreHosts};
 
 use amqp_props::Text;
-use std::alloc::{AllocError, Global};
-use std::collections::VecDeque;
 use defs_lists::bindings::Objects;
-use fed_defs::{BindingDef, ExchangeDef, ParameterDef, PolicyDef, QueueDef, VhostConfig, Sequence};
 use defs_lists::names::Names;
 use defs_lists::placed::{Placed, distribute};
+use fed_defs::{BindingDef, ExchangeDef, ParameterDef, PolicyDef, QueueDef, Sequence, VhostConfig};
+use std::alloc::{AllocError, Global};
+use std::collections::VecDeque;
 
 /// What the lists of objects hold.
 #[derive(Drop)]

@@ -13,25 +13,27 @@ ghost use Rattle.defs_lists.specs.Vhosts as hosts;
 ghost use Rattle.defs_values.specs.Keys.{optional_fault};
 ghost use Rattle.defs_lists.specs.PlacedItems.{AreDistinct};
 
-use amqp_props::Text;
-use serde_json::Value;
-use std::alloc::{AllocError, Global};
 use crate::assembly::{ObjectLists, assemble};
+use crate::kept_text::kept_text;
+use amqp_props::Text;
 use defs_lists::bindings::{BindingList, Objects, read_bindings};
 use defs_lists::clusters::read_cluster;
-use fed_defs::{BrokerConfig, ExchangeDef, ParameterDef, PolicyDef, QueueDef, VhostConfig, Sequence};
 use defs_lists::exchanges::{ExchangeList, read_exchanges};
-use defs_values::fault::{DefFault, KeyFault};
-use defs_values::inert::add;
-use crate::kept_text::kept_text;
-use defs_values::keys::{refused, value_of};
 use defs_lists::names::{Names, Word};
 use defs_lists::parameters::{ParameterList, read_parameters};
 use defs_lists::placed::Placed;
 use defs_lists::policies::{PolicyList, read_policies};
 use defs_lists::queues::{QueueList, read_queues};
-use defs_values::value::misfit;
 use defs_lists::vhosts::{read_vhosts, vhost_named};
+use defs_values::fault::{DefFault, KeyFault};
+use defs_values::inert::add;
+use defs_values::keys::{refused, value_of};
+use defs_values::value::misfit;
+use fed_defs::{
+    BrokerConfig, ExchangeDef, ParameterDef, PolicyDef, QueueDef, Sequence, VhostConfig,
+};
+use serde_json::Value;
+use std::alloc::{AllocError, Global};
 
 /// What a definitions file holds.
 #[derive(Drop)]

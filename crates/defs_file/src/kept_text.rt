@@ -5,10 +5,10 @@ ghost use Rattle.serde_json.specs.Written.{compact_text};
 ghost use Rattle.defs_file.specs.File.{kept_file, lists_fault, passed_objects};
 
 use amqp_props::Text;
+use defs_kept::kept_file::kept_beside;
+use defs_lists::bindings::Objects;
 use serde_json::Value;
 use std::alloc::{AllocError, Global};
-use defs_lists::bindings::Objects;
-use defs_kept::kept_file::kept_beside;
 
 /// The text of the kept configuration. A file that isn't refused has no floating-point number in it.
 #[tactic(auto, unfolding(crate::specs::File::kept_file), using(crate::proofs::KeptFiles::no_float))]

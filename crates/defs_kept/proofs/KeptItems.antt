@@ -342,7 +342,7 @@ binding_ends vhosts d h =
     let vhost = firsts _ _ h in
     let source = firsts _ _ vhost.1 in
     let destination = firsts _ _ source.1 in
-    (own_vhost_plain vhosts d vhost.0, required_plain _ _ d filled_plain source.0, required_plain _ _ d short_text_plain destination.0)
+    (own_vhost_plain vhosts d vhost.0, required_plain _ _ d short_text_plain source.0, required_plain _ _ d short_text_plain destination.0)
 
 binding_rest : (d : Data) → binding_rest_fault d ≡ None
     → IsPlain (get (codes "destination_type") d) × IsPlain (get (codes "routing_key") d) × IsPlain (get (codes "arguments") d)

@@ -4,10 +4,10 @@ ghost use Rattle.serde_json.specs.Find.{get};
 ghost use Rattle.serde_json.specs.View.{view, members_view};
 ghost use Rattle.defs_kept.specs.Kept as kept;
 
-use serde_json::{Map, Value};
-use std::alloc::{AllocError, Global};
 use defs_values::keys::value_of;
 use defs_values::settings::has_key;
+use serde_json::{Map, Value};
+use std::alloc::{AllocError, Global};
 
 /// The members of an object while it is made.
 pub type Members = Map<String, Value>;

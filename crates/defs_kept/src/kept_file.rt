@@ -10,13 +10,15 @@ ghost use Rattle.defs_lists.specs.Queues as queues;
 ghost use Rattle.defs_lists.specs.Lists.{list_of};
 ghost use Rattle.defs_lists.specs.Vhosts.{no_item};
 
+use crate::kept::{Members, put};
+use crate::kept_items::{
+    kept_bindings, kept_exchanges, kept_globals, kept_policies, kept_queues, kept_vhosts,
+};
+use crate::kept_parameters::kept_parameters;
+use defs_lists::bindings::Objects;
+use defs_values::keys::value_of;
 use serde_json::{Map, Value};
 use std::alloc::{AllocError, Global};
-use defs_lists::bindings::Objects;
-use crate::kept::{Members, put};
-use crate::kept_items::{kept_bindings, kept_exchanges, kept_globals, kept_policies, kept_queues, kept_vhosts};
-use crate::kept_parameters::kept_parameters;
-use defs_values::keys::value_of;
 
 /// The items of the list at the key, where there is one.
 fn items_of<'v>(value: &'v Value, key: &str) -> Option<&'v [Value]>
@@ -128,7 +130,7 @@ fn keep_bindings(
 
 /// The kept configuration of a file in which these objects are passed over.
 #[tactic(auto, unfolding(crate::specs::Kept::kept_beside))]
-fn kept_beside(alloc: Global, passed: &Objects, value: &Value) -> Result<Value, AllocError>
+pub fn kept_beside(alloc: Global, passed: &Objects, value: &Value) -> Result<Value, AllocError>
     ensures { IfOk result (λ v. view v ≡ kept.kept_beside passed.now (view value.now)) }
 {
     let mut members = Map::new(alloc);

@@ -9,14 +9,14 @@ ghost use Rattle.defs_kept.specs.Kept as kept;
 ghost use Rattle.defs_lists.specs.Queues as queues;
 ghost use Rattle.defs_lists.specs.Vhosts.{no_item};
 
-use serde_json::{Map, Value};
-use std::alloc::{AllocError, Global};
+use crate::kept::{Members, keep, put};
 use defs_lists::bindings::{Objects, is_passed_item};
 use defs_lists::clusters::is_other_global;
 use defs_lists::exchanges::is_passed_exchange;
-use crate::kept::{Members, keep, put};
-use defs_values::keys::value_of;
 use defs_lists::queues::is_passed_queue;
+use defs_values::keys::value_of;
+use serde_json::{Map, Value};
+use std::alloc::{AllocError, Global};
 
 /// A virtual host.
 #[tactic(auto, unfolding(crate::specs::Kept::kept_vhost))]
@@ -249,11 +249,7 @@ fn kept_binding(alloc: Global, value: &Value) -> Result<Value, AllocError>
 }
 
 /// The bindings but those that are passed over.
-pub fn kept_bindings(
-    alloc: Global,
-    passed: &Objects,
-    items: &[Value],
-) -> Result<Value, AllocError>
+pub fn kept_bindings(alloc: Global, passed: &Objects, items: &[Value]) -> Result<Value, AllocError>
     ensures { IfOk result (λ v. view v ≡ kept.kept_items (bindings.is_passed_binding passed.now) kept.kept_binding (items_view items.now)) }
 {
     let mut list = Vec::new(alloc);

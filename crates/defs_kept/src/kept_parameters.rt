@@ -6,11 +6,11 @@ ghost use Rattle.defs_kept.specs.Kept as kept;
 ghost use Rattle.defs_values.specs.Parameters.{is_other_component, own_component};
 ghost use Rattle.defs_lists.specs.Vhosts.{no_item};
 
-use serde_json::{Map, Value};
-use std::alloc::{AllocError, Global};
 use crate::kept::{Members, keep, keep_beside, keep_either, put};
 use defs_values::keys::value_of;
 use defs_values::parameters::{Component, is_other_component, own_component};
+use serde_json::{Map, Value};
+use std::alloc::{AllocError, Global};
 
 /// Keeps what an upstream says beside its URIs, and the member of a set beside its upstream.
 #[tactic(auto, unfolding(crate::specs::Kept::kept_overrides))]

@@ -1,6 +1,6 @@
 -- The bindings of a definitions file (AMQP 0-9-1, queue.bind; RabbitMQ's "Exchange to Exchange Bindings"). Those that name a
 -- queue or an exchange that is passed over are passed over too.
-use Rattle.std.specs.Prelude.{ℕ, ◌+◌, List, [], ◌∷◌, ◌++◌, Bool, true, false, not, ◌||◌, ◌&&◌, codes, Option, Some, None, unwrap_or, option_and_then, if◌then◌else◌}
+use Rattle.std.specs.Prelude.{ℕ, ◌+◌, List, [], ◌∷◌, ◌++◌, Bool, true, false, not, ◌||◌, ◌&&◌, codes, Option, Some, None, is_some, unwrap_or, option_and_then, if◌then◌else◌}
 use Rattle.std.specs.Option.{option_or}
 use Rattle.serde_json.specs.Data.{Data, Items, no_items, item}
 use Rattle.serde_json.specs.Find.{get, as_str}
@@ -20,7 +20,7 @@ use Rattle.defs_lists.specs.Queues.{named_at}
 use Rattle.defs_values.specs.Shovels.{short_text_refusal}
 use Rattle.fed_defs.specs.Texts.{same_text}
 use Rattle.defs_values.specs.Values.{refused_unless}
-use Rattle.defs_values.specs.Texts.{text_at, filled_refusal}
+use Rattle.defs_values.specs.Texts.{text_at}
 use Rattle.defs_lists.specs.Vhosts.{vhost_at, own_vhost_fault}
 
 -- ---- where a binding leads
@@ -49,11 +49,19 @@ leads_among passed name None = false
 leads_among passed name (Some true) = has_name name passed.exchanges
 leads_among passed name (Some false) = has_name name passed.queues
 
+-- the objects that it names are those of its virtual host, so it has to name one by a text, or none
+abbrev pub has_vhost : Option Data → Bool
+has_vhost None = true
+has_vhost (Some v) = is_some (as_str v)
+
 -- it names one of these objects
-unfoldable pub is_passed_binding : Objects → Data → Bool
-is_passed_binding passed d =
+unfoldable pub names_one : Objects → Data → Bool
+names_one passed d =
     has_name (named_at (codes "source") d) passed.exchanges
     || leads_among passed (named_at (codes "destination") d) (destination_of (get (codes "destination_type") d))
+
+unfoldable pub is_passed_binding : Objects → Data → Bool
+is_passed_binding passed d = has_vhost (get (codes "vhost") d) && names_one passed d
 
 -- ---- one binding
 
@@ -72,11 +80,11 @@ binding_of d = record {
   };
 }
 
--- the keys in their order; from the default exchange, whose name is empty, nothing can be bound
+-- the keys in their order
 unfoldable pub binding_ends_fault : List Name → Data → Option KeyFault
 binding_ends_fault vhosts d = first_fault (
     own_vhost_fault vhosts d
-    ∷ required_fault filled_refusal (codes "source") d
+    ∷ required_fault short_text_refusal (codes "source") d
     ∷ required_fault short_text_refusal (codes "destination") d
     ∷ [])
 
@@ -101,7 +109,7 @@ abbrev pub stands_as : Objects → Name → Bool → Bool
 stands_as kept name true = stands_as_exchange kept name
 stands_as kept name false = has_name name kept.queues
 
--- both ends are there
+-- both ends are there; nothing can be bound from the default exchange (AMQP 0-9-1, 3.1.3.1), whose name is empty
 unfoldable pub has_ends : Objects → Data → Bool
 has_ends kept d =
     stands_as_exchange kept (named_at (codes "source") d)

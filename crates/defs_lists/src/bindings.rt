@@ -9,22 +9,22 @@ ghost use Rattle.defs_values.specs.Arguments.{arguments_of};
 ghost use Rattle.defs_values.specs.Keys.{value_at, optional_fault};
 ghost use Rattle.defs_lists.specs.Queues.{named_at};
 
-use amqp_props::{FieldTable, Text};
-use serde_json::Value;
-use std::alloc::{AllocError, Global};
-use defs_values::arguments::arguments_at;
-use fed_defs::BindingDef;
 use crate::exchanges::is_predeclared;
-use defs_values::fault::{KeyFault, Refusal};
-use defs_values::inert::add;
-use defs_values::keys::{filled_at, refused, text_at, value_of};
 use crate::names::{Name, Names};
-use defs_values::paths::{at_item, in_item};
 use crate::placed::Placed;
 use crate::queues::named_at;
+use crate::vhosts::own_vhost;
+use amqp_props::{FieldTable, Text};
+use defs_values::arguments::arguments_at;
+use defs_values::fault::{KeyFault, Refusal};
+use defs_values::inert::add;
+use defs_values::keys::{refused, text_at, value_of};
+use defs_values::paths::{at_item, in_item};
 use defs_values::settings::short_text_at;
 use defs_values::value::{is_word, misfit};
-use crate::vhosts::own_vhost;
+use fed_defs::BindingDef;
+use serde_json::Value;
+use std::alloc::{AllocError, Global};
 
 /// The names of queues and exchanges.
 #[derive(Drop)]
@@ -90,6 +90,27 @@ fn ends_of(alloc: Global, value: &Value) -> Result<Ends, AllocError>
     })
 }
 
+/// Whether the binding names its virtual host by a text, or names none.
+fn has_vhost(value: &Value) -> bool
+    ensures { result ≡ bindings.has_vhost (get (codes "vhost") (view value.now)) }
+{
+    match value_of(value, "vhost") {
+        Some(found) => found.as_str().is_some(),
+        None => true,
+    }
+}
+
+/// Whether the binding names one of these objects.
+#[tactic(auto, unfolding(crate::specs::Bindings::names_one))]
+fn names_one(passed: &Objects, ends: &Ends, value: &Value) -> bool
+    requires source { ends.now.source ≡ named_at (codes "source") (view value.now) }
+    requires destination { ends.now.destination ≡ named_at (codes "destination") (view value.now) }
+    ensures { result ≡ bindings.names_one passed.now (view value.now) }
+{
+    passed.exchanges.has(&ends.source)
+        || leads_among(passed, &ends.destination, destination_of(value))
+}
+
 /// Whether the binding is passed over.
 #[tactic(auto, unfolding(crate::specs::Bindings::is_passed_binding))]
 fn is_passed_binding(passed: &Objects, ends: &Ends, value: &Value) -> bool
@@ -97,16 +118,11 @@ fn is_passed_binding(passed: &Objects, ends: &Ends, value: &Value) -> bool
     requires destination { ends.now.destination ≡ named_at (codes "destination") (view value.now) }
     ensures { result ≡ bindings.is_passed_binding passed.now (view value.now) }
 {
-    passed.exchanges.has(&ends.source)
-        || leads_among(passed, &ends.destination, destination_of(value))
+    has_vhost(value) && names_one(passed, ends, value)
 }
 
 /// Whether the item is a binding that is passed over.
-pub fn is_passed_item(
-    alloc: Global,
-    passed: &Objects,
-    value: &Value,
-) -> Result<bool, AllocError>
+pub fn is_passed_item(alloc: Global, passed: &Objects, value: &Value) -> Result<bool, AllocError>
     ensures { IfOk result (λ passes. passes ≡ bindings.is_passed_binding passed.now (view value.now)) }
 {
     let ends = ends_of(alloc, value)?;
@@ -186,7 +202,7 @@ fn read_front(alloc: Global, vhosts: &Names, value: &Value) -> Result<Front, Key
         → bindings.binding_ends_fault vhosts.now (view value.now) ≡ Some fault) }
 {
     let vhost = own_vhost(alloc, vhosts, value)?;
-    let source = filled_at(alloc, value, "source")?;
+    let source = text_at(alloc, value, "source")?;
     let destination = text_at(alloc, value, "destination")?;
     Ok(Front {
         vhost,

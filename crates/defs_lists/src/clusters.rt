@@ -5,13 +5,13 @@ ghost use Rattle.defs_lists.specs.Clusters as clusters;
 ghost use Rattle.defs_values.specs.Texts as hosts;
 
 use amqp_props::Text;
-use serde_json::Value;
-use std::alloc::Global;
 use defs_values::fault::{KeyFault, Refusal};
 use defs_values::keys::{filled_at, value_of};
 use defs_values::parameters::check_text;
 use defs_values::paths::{at_item, in_item};
 use defs_values::value::{is_word, misfit};
+use serde_json::Value;
+use std::alloc::Global;
 
 /// Whether the global parameter is another one.
 #[tactic(auto, unfolding(crate::specs::Clusters::is_other_global))]

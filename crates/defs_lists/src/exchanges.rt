@@ -10,20 +10,20 @@ ghost use Rattle.defs_values.specs.Keys.{value_at, required_fault};
 ghost use Rattle.defs_lists.specs.Names.{has_name};
 ghost use Rattle.defs_values.specs.Paths.{whole_fault};
 
+use crate::names::{Names, Passed, once};
+use crate::placed::Placed;
+use crate::queues::{is_reserved_at, name_at, object_name};
+use crate::vhosts::own_vhost;
 use amqp_props::{ExchangeKind, Text};
-use serde_json::Value;
-use std::alloc::Global;
-use fed_defs::ExchangeDef;
 use defs_values::fault::{KeyFault, Refusal};
 use defs_values::inert::{KeySet, add, inert_at};
 use defs_values::keys::{refused, value_of};
-use crate::names::{Names, Passed, once};
 use defs_values::paths::{at_item, in_item};
-use crate::placed::Placed;
-use crate::queues::{is_reserved_at, name_at, object_name};
 use defs_values::settings::flag_at;
 use defs_values::value::{is_word, misfit};
-use crate::vhosts::own_vhost;
+use fed_defs::ExchangeDef;
+use serde_json::Value;
+use std::alloc::Global;
 
 /// Whether the name is that of a predeclared exchange.
 #[tactic(auto, unfolding(crate::specs::Exchanges::is_predeclared))]

@@ -7,12 +7,12 @@ ghost use Rattle.std.proofs.Common.{rules};
 ghost use Rattle.defs_lists.specs.Names as known;
 ghost use Rattle.defs_values.specs.Paths.{whole_fault};
 
+use defs_values::fault::{KeyFault, Refusal};
+use defs_values::paths::at_item;
 use indexmap::IndexSet;
 use std::alloc::{AllocError, AllocFailed, Global};
 use std::hash::{Hash, Hasher};
 use std::marker::Model;
-use defs_values::fault::{KeyFault, Refusal};
-use defs_values::paths::at_item;
 
 /// A text, seen as its octets.
 #[derive(Debug, Drop)]

@@ -9,20 +9,22 @@ ghost use Rattle.defs_values.specs.Texts as texts;
 ghost use Rattle.defs_lists.specs.Names.{has_name};
 ghost use Rattle.defs_values.specs.Paths.{item_fault, whole_fault};
 
+use crate::names::{Name, Names, Word, once};
+use crate::placed::Placed;
+use crate::queues::word_at;
+use crate::vhosts::{own_vhost, vhost_at};
 use amqp_props::Text;
-use serde_json::Value;
-use std::alloc::{AllocError, Global};
-use fed_defs::ParameterDef;
 use defs_values::fault::KeyFault;
 use defs_values::inert::add;
 use defs_values::keys::{text_at, value_of};
-use crate::names::{Name, Names, Word, once};
+use defs_values::parameters::{
+    check_text, is_other_component, own_component, own_value, value_inert,
+};
 use defs_values::paths::{at_item, in_item};
-use crate::placed::Placed;
-use crate::queues::word_at;
 use defs_values::value::misfit;
-use crate::vhosts::{own_vhost, vhost_at};
-use defs_values::parameters::{check_text, is_other_component, own_component, own_value, value_inert};
+use fed_defs::ParameterDef;
+use serde_json::Value;
+use std::alloc::{AllocError, Global};
 
 /// What the keys before the value say.
 #[derive(Drop)]

@@ -3,12 +3,12 @@ ghost use Rattle.std.specs.Prelude.{◌≡◌, ◌<◌, ◌++◌, ◌∷◌, [],
 ghost use Rattle.defs_lists.specs.PlacedItems.{AreDistinct, given, placed_in_each};
 ghost use Rattle.defs_lists.specs.Vhosts.{AreHosts};
 
-use amqp_props::Text;
-use std::alloc::{AllocError, Global};
-use std::collections::VecDeque;
-use fed_defs::Sequence;
 use crate::names::{Name, Names, Word};
 use crate::vhosts::vhost_named;
+use amqp_props::Text;
+use fed_defs::Sequence;
+use std::alloc::{AllocError, Global};
+use std::collections::VecDeque;
 
 /// An item and the virtual host that it is in.
 #[derive(Drop)]

@@ -11,21 +11,21 @@ ghost use Rattle.defs_lists.specs.Names.{has_name};
 ghost use Rattle.defs_values.specs.Paths.{whole_fault};
 ghost use Rattle.defs_lists.specs.Queues.{object_name};
 
+use crate::names::{Names, once};
+use crate::placed::Placed;
+use crate::queues::object_name;
+use crate::vhosts::own_vhost;
 use amqp_props::Text;
+use defs_values::fault::KeyFault;
+use defs_values::inert::{KeySet, add, inert_at};
+use defs_values::keys::text_at;
+use defs_values::paths::{at_item, in_item};
+use defs_values::policies::{apply_at, definition_at, pattern_at, priority_at};
+use defs_values::value::misfit;
+use fed_defs::{PolicyDef, SharedPattern};
 use policy_core::Apply;
 use serde_json::Value;
 use std::alloc::Global;
-use fed_defs::{PolicyDef, SharedPattern};
-use defs_values::fault::KeyFault;
-use defs_values::inert::{KeySet, add, inert_at};
-use crate::names::{Names, once};
-use defs_values::paths::{at_item, in_item};
-use crate::placed::Placed;
-use crate::queues::object_name;
-use defs_values::value::misfit;
-use crate::vhosts::own_vhost;
-use defs_values::keys::text_at;
-use defs_values::policies::{apply_at, definition_at, pattern_at, priority_at};
 
 /// What the first keys of a policy say.
 #[derive(Drop)]
@@ -150,11 +150,7 @@ pub struct PolicyList {
 }
 
 /// Reads the list of policies.
-pub fn read_policies(
-    alloc: Global,
-    vhosts: &Names,
-    items: &[Value],
-) -> Result<PolicyList, KeyFault>
+pub fn read_policies(alloc: Global, vhosts: &Names, items: &[Value]) -> Result<PolicyList, KeyFault>
     ensures kept { IfOk result (λ list. list.kept.items ≡ policies.policies_of (items_view items.now)) }
     ensures inert { IfOk result (λ list. list.inert ≡ policies.policies_inert (items_view items.now)) }
     ensures ok { OnOk result (policies.policies_fault vhosts.now [] 0 (items_view items.now) ≡ None) }

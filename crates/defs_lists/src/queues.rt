@@ -11,19 +11,19 @@ ghost use Rattle.defs_values.specs.Keys.{value_at, optional_fault, required_faul
 ghost use Rattle.defs_lists.specs.Names.{has_name};
 ghost use Rattle.defs_values.specs.Paths.{whole_fault};
 
+use crate::names::{Name, Names, Passed, Word, once};
+use crate::placed::Placed;
+use crate::vhosts::{own_vhost, vhost_at};
 use amqp_props::{QueueOptions, Text};
-use serde_json::Value;
-use std::alloc::{AllocError, Global};
-use fed_defs::QueueDef;
 use defs_values::fault::{KeyFault, Refusal};
 use defs_values::inert::{KeySet, add, inert_at};
 use defs_values::keys::{refused, value_of};
-use crate::names::{Name, Names, Passed, Word, once};
 use defs_values::paths::{at_item, below, in_item};
-use crate::placed::Placed;
 use defs_values::settings::flag_at;
 use defs_values::value::{is_word, misfit, read_name};
-use crate::vhosts::{own_vhost, vhost_at};
+use fed_defs::QueueDef;
+use serde_json::Value;
+use std::alloc::{AllocError, Global};
 
 /// The text at the key, and the empty one where there is none.
 pub fn word_at(alloc: Global, value: &Value, key: &str) -> Result<Word, AllocError>
@@ -283,11 +283,7 @@ fn read_passed(alloc: Global, items: &[Value]) -> Result<Passed, KeyFault>
 }
 
 /// Reads the list of queues.
-pub fn read_queues(
-    alloc: Global,
-    vhosts: &Names,
-    items: &[Value],
-) -> Result<QueueList, KeyFault>
+pub fn read_queues(alloc: Global, vhosts: &Names, items: &[Value]) -> Result<QueueList, KeyFault>
     ensures kept { IfOk result (λ list. list.kept.items ≡ queues.queues_of (items_view items.now)) }
     ensures names { IfOk result (λ list. list.names ≡ queues.queue_names (items_view items.now)) }
     ensures passed { IfOk result (λ list. list.passed ≡ queues.passed_queues [] (items_view items.now)) }

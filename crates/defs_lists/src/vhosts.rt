@@ -8,15 +8,15 @@ ghost use Rattle.defs_lists.specs.Names.{has_name};
 ghost use Rattle.defs_values.specs.Paths.{whole_fault};
 ghost use Rattle.defs_lists.specs.PlacedItems.{AreDistinct};
 
+use crate::names::{Name, Names, Word, once};
 use amqp_props::Text;
-use serde_json::Value;
-use std::alloc::{AllocError, Global};
 use defs_values::fault::{KeyFault, Refusal};
 use defs_values::keys::{refused, text_at, value_of};
-use crate::names::{Name, Names, Word, once};
 use defs_values::paths::{at_item, in_item};
 use defs_values::props::short_text_refusal;
 use defs_values::value::misfit;
+use serde_json::Value;
+use std::alloc::{AllocError, Global};
 
 /// A name among virtual hosts.
 pub fn vhost_named(alloc: Global, name: Word) -> Name
