@@ -1,5 +1,5 @@
 -- What a line that is accepted carries has a spelling on the wire.
-use Rattle.std.proofs.Common.{◌≡◌, ℕ, ◌+◌, ◌≤◌, Bool, true, false, cond, List, [], ◌++◌, length, drop, Option, Some, None, Result, Ok, Err, refl, sym, subst, arith}
+use Rattle.std.proofs.Common.{◌≡◌, ℕ, ◌+◌, ◌≤◌, Bool, true, false, cond, List, [], ◌++◌, length, drop, Option, Some, None, Result, Err, refl, arith}
 use Rattle.std.specs.Prelude.{IfOk, ◌||◌, ◌&&◌, ◌==◌, not, replicate, codes}
 use Rattle.std.specs.List.{list_any}
 use Rattle.std.proofs.lemmas.List.Elements.{All-append, All-replicate}
@@ -24,7 +24,6 @@ use Rattle.fed_schedule.specs.declared.keyword.LinkAction.TheVariants.{Open, Tak
 use Rattle.fed_schedule.specs.declared.script.LineReason.{LineReason}
 use Rattle.fed_schedule.specs.declared.script.LineReason.TheVariants as why
 use Rattle.fed_schedule.specs.declared.statement.Statement.{Statement}
-use Rattle.fed_schedule.specs.declared.statement.Statement.TheVariants as states
 use Rattle.fed_schedule.specs.declared.script.TheConstants.{MAX_SCHEDULE}
 use Rattle.schedule_words.specs.Words.{word_at, spaced_length, octets_of, text_of}
 use Rattle.schedule_words.specs.Fields.{place_of}
@@ -35,15 +34,10 @@ use Rattle.fed_schedule.specs.Messages.{header_front, message_of}
 use Rattle.fed_schedule.specs.Reasons.{is_late, is_bad_body, has_bad_number, has_bad_binding_names, has_bad_publish_names, has_bad_names, has_bad_option, has_bad_message, has_bad_value}
 use Rattle.fed_schedule.specs.Statements.{client_at, queue_options_of, exchange_shape_of, declare_event, binding_at, binding_event, publish_event, shovel_event, consume_event, cancel_event, deliver_event, get_event, settle_event, purge_event, close_event, client_event, link_event, statement_of}
 use Rattle.fed_schedule.specs.Times.{head_of, line_of, is_head, is_bad_head, is_single}
-use Rattle.fed_schedule.specs.Schedule.{Reading, AreWritable, are_escaped, single_reason, reason_of, unless_refused, of_form, of_line, judge}
+use Rattle.fed_schedule.specs.Schedule.{State, AreWritable, IsWritableStatement, are_escaped, single_reason, reason_of, unless_refused, of_form, of_line, judge}
 use Rattle.fed_schedule.proofs.Arguments.{arguments_spelled, binding_names, props_short}
 use Rattle.fed_schedule.proofs.Lengths.{spaced_line}
 use Rattle.schedule_words.proofs.Lengths.{spaced_drop}
-
--- what a statement carries
-abbrev IsWritableStatement : Statement → Type 0
-IsWritableStatement (states.Broker name) = Unit {0}
-IsWritableStatement (states.Event e) = IsWritable e
 
 -- ---- bindings
 
@@ -141,21 +135,21 @@ none_applies false false false false false false true v x = absurd cc
 none_applies false false false false false false false true x = absurd cc
 none_applies false false false false false false false false x = (refl, refl)
 
-accepted : (r : Reading) (k : Keyword) (head ws : List (List ℕ)) → reason_of r k head ws ≡ None → IsAccepted k ws
+accepted : (r : State) (k : Keyword) (head ws : List (List ℕ)) → reason_of r k head ws ≡ None → IsAccepted k ws
 unfolding reason_of
 accepted r k head ws e =
-    let t = none_applies (is_unbuilt r.events k head ws) (is_late (not (length r.events == 0)) k) (list_any is_empty_word head || is_miscounted k ws) (not (are_escaped head ws))
+    let t = none_applies (is_unbuilt r.shovels k head ws) (is_late (not (length r.events == 0)) k) (list_any is_empty_word head || is_miscounted k ws) (not (are_escaped head ws))
     (is_bad_head head || has_bad_number k ws) (has_bad_names k ws) (has_bad_option k ws) (has_bad_value k ws) e in
     record { named = t.0; valued = t.1 }
 
 abbrev IsGood : Result Statement LineReason → Type 0
 IsGood judged = IfOk judged IsWritableStatement
 
-unless-writable : (reason : Option LineReason) (r : Reading) (k : Keyword) (head ws : List (List ℕ)) → spaced_length ws ≤ MAX_SCHEDULE + 1 → reason_of r k head ws ≡ reason → IsGood (unless_refused reason (statement_of k ws))
+unless-writable : (reason : Option LineReason) (r : State) (k : Keyword) (head ws : List (List ℕ)) → spaced_length ws ≤ MAX_SCHEDULE + 1 → reason_of r k head ws ≡ reason → IsGood (unless_refused reason (statement_of k ws))
 unless-writable None r k head ws few is = let t = accepted r k head ws is in statement-writable k ws t.named t.valued few
 unless-writable (Some reason) r k head ws few is = tt
 
-form-writable : (r : Reading) (head ws : List (List ℕ)) (k : Option Keyword) → spaced_length ws ≤ MAX_SCHEDULE + 1 → IsGood (of_form r head ws k)
+form-writable : (r : State) (head ws : List (List ℕ)) (k : Option Keyword) → spaced_length ws ≤ MAX_SCHEDULE + 1 → IsGood (of_form r head ws k)
 form-writable r head ws None few = tt
 form-writable r head ws (Some k) few = unless-writable (reason_of r k head ws) r k head ws few refl
 
@@ -163,17 +157,14 @@ if_writable : (b : Bool) (reason : LineReason) (judged : Result Statement LineRe
 if_writable true reason judged good = tt
 if_writable false reason judged good = good
 
-line-writable : (r : Reading) (head ws : List (List ℕ)) → spaced_length ws ≤ MAX_SCHEDULE + 1 → IsGood (of_line r head ws)
+line-writable : (r : State) (head ws : List (List ℕ)) → spaced_length ws ≤ MAX_SCHEDULE + 1 → IsGood (of_line r head ws)
 unfolding of_line
 line-writable r head ws few =
     if_writable (length ws == 0) why.Count _ (if_writable (is_head head && is_single (word_at ws 0)) (single_reason head ws) _ (form-writable r head ws (keyword_of (word_at ws 0)) few))
 
-judge-writable : (r : Reading) (ws : List (List ℕ)) → spaced_length ws ≤ MAX_SCHEDULE + 1 → IfOk (judge r ws) IsWritableStatement
+pub judged_writable : (r : State) (ws : List (List ℕ)) → spaced_length ws ≤ MAX_SCHEDULE + 1 → IfOk (judge r ws) IsWritableStatement
 unfolding judge
-judge-writable r ws few = if_writable (not (are_texts ws)) why.Text _ (line-writable r (head_of ws) (line_of ws) (omega (arith, few, spaced_line ws)))
-
-pub judge_event : (r : Reading) (ws : List (List ℕ)) (e : Event) → spaced_length ws ≤ MAX_SCHEDULE + 1 → Ok (states.Event e) ≡ judge r ws → IsWritable e
-judge_event r ws e few is = subst IsGood (sym is) (judge-writable r ws few)
+judged_writable r ws few = if_writable (not (are_texts ws)) why.Text _ (line-writable r (head_of ws) (line_of ws) (omega (arith, few, spaced_line ws)))
 
 pub copies_writable : (es : List (ℕ × Event)) (n count : ℕ) (e : Event) → IsWritable e → AreWritable es → AreWritable (es ++ replicate count (n, e))
 copies_writable es n count e good goods =

@@ -1,11 +1,12 @@
 -- The forms of lines, by their first word.
-use Rattle.std.specs.Prelude.{ℕ, ◌+◌, List, Bool, true, false, ◌&&◌, ◌||◌, not, if◌then◌else◌, ◌==◌, nat_le, nat_lt, length, take, drop, Option, Some, None, codes}
+use Rattle.std.specs.Prelude.{ℕ, ◌+◌, List, [], ◌∷◌, ◌++◌, Bool, true, false, ◌&&◌, ◌||◌, not, if◌then◌else◌, ◌==◌, nat_le, nat_lt, length, take, drop, Option, Some, None, codes}
 use Rattle.std.specs.List.{list_any, list_all}
 use Rattle.fed_journal.specs.declared.event.Event.{Event}
 use Rattle.fed_journal.specs.declared.event.Event.TheVariants.{SetShovel}
 use Rattle.fed_journal.specs.declared.place.Place.{Place}
-use Rattle.fed_journal.specs.Names.{same_text, same_place}
+use Rattle.fed_journal.specs.Names.{same_text}
 use Rattle.fed_schedule.specs.declared.keyword.Keyword.{Keyword}
+use Rattle.fed_schedule.specs.declared.shovels.ShovelKey.{ShovelKey}
 use Rattle.fed_schedule.specs.declared.keyword.Keyword.TheVariants.{Broker, Declare, Binding, Publish, Flush, Shovel, Client, Link, Show}
 use Rattle.fed_schedule.specs.declared.keyword.BindingAction.TheVariants as binding
 use Rattle.fed_schedule.specs.declared.keyword.Settlement.TheVariants as settles
@@ -78,25 +79,34 @@ unfoldable pub is_unbuilt_declare : List (List ℕ) → Bool
 is_unbuilt_declare ws =
     same_text (word_at ws 3) (codes "queue") && nat_le 5 (length ws) && are_queue_options (drop 5 ws) && not (are_built_queue_options (drop 5 ws))
 
--- the event sets the shovel of this place and name
-abbrev pub sets_shovel : Place → List ℕ → Event → Bool
-sets_shovel p n (SetShovel place name shovel) = same_place place p && same_text name n
-sets_shovel p n _ = false
+-- what tells the shovel of a place and name from others
+abbrev pub shovel_key : Place → List ℕ → ShovelKey
+shovel_key p n = record { broker = p.broker; vhost = p.vhost; name = n }
 
-abbrev pub line_sets_shovel : Place → List ℕ → (ℕ × Event) → Bool
-line_sets_shovel p n e = sets_shovel p n e.1
+-- shovels are told apart by their places and names
+abbrev pub same_shovel : ShovelKey → ShovelKey → Bool
+same_shovel a b = same_text a.broker b.broker && same_text a.vhost b.vhost && same_text a.name b.name
+
+-- the shovels set so far, and one more
+abbrev pub with_key : List ShovelKey → ShovelKey → List ShovelKey
+with_key ks k = if list_any (same_shovel k) ks then ks else ks ++ k ∷ []
+
+-- the same with the one that an event sets
+unfoldable pub with_shovel : List ShovelKey → Event → List ShovelKey
+with_shovel ks (SetShovel place name shovel) = with_key ks (shovel_key place name)
+with_shovel ks _ = ks
 
 -- a shovel with another acknowledgement mode (RabbitMQ, shovels: `ack-mode`), or one that is set again
-unfoldable pub is_unbuilt_shovel : List (ℕ × Event) → List (List ℕ) → Bool
-is_unbuilt_shovel es ws =
+unfoldable pub is_unbuilt_shovel : List ShovelKey → List (List ℕ) → Bool
+is_unbuilt_shovel ks ws =
     same_text (word_at ws 7) (codes "on-publish") || same_text (word_at ws 7) (codes "no-ack")
-    || list_any (line_sets_shovel (place_of (word_at ws 1)) (text_of (word_at ws 2))) es
+    || list_any (same_shovel (shovel_key (place_of (word_at ws 1)) (text_of (word_at ws 2)))) ks
 
--- a line whose form isn't built yet, after what stands before it
-unfoldable pub is_unbuilt : List (ℕ × Event) → Keyword → List (List ℕ) → List (List ℕ) → Bool
-is_unbuilt es Declare head ws = is_unbuilt_declare ws
-is_unbuilt es Shovel head ws = is_repeated head || is_unbuilt_shovel es ws
-is_unbuilt es _ head ws = false
+-- a line whose form isn't built yet, after the shovels set before it
+unfoldable pub is_unbuilt : List ShovelKey → Keyword → List (List ℕ) → List (List ℕ) → Bool
+is_unbuilt ks Declare head ws = is_unbuilt_declare ws
+is_unbuilt ks Shovel head ws = is_repeated head || is_unbuilt_shovel ks ws
+is_unbuilt ks _ head ws = false
 
 -- the words of what a client does, without options
 abbrev pub client_word_count : ClientAction → ℕ

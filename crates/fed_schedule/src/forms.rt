@@ -2,14 +2,14 @@
 ghost use Rattle.std.specs.Prelude.{◌≡◌, ◌<◌, IfOk};
 ghost use Rattle.std.specs.List.{list_any, list_all};
 ghost use Rattle.schedule_words.specs.Words.{is_text};
-ghost use Rattle.fed_schedule.specs.Forms.{client_action_of, link_action_of, action_keyword_of, keyword_of, are_texts_but, are_texts, is_unbuilt_declare, line_sets_shovel, is_unbuilt_shovel, is_unbuilt, client_word_count, declare_word_count, word_count, takes_options, is_empty_word, is_miscounted};
+ghost use Rattle.fed_schedule.specs.Forms.{client_action_of, link_action_of, action_keyword_of, keyword_of, are_texts_but, are_texts, is_unbuilt_declare, is_unbuilt_shovel, is_unbuilt, client_word_count, declare_word_count, word_count, takes_options, is_empty_word, is_miscounted};
 
 use crate::keyword::{BindingAction, ClientAction, Keyword, LinkAction, Settlement};
 use crate::options::{are_built_queue_options, are_queue_options};
+use crate::shovels::{ShovelKey, shovel_key};
 use crate::times::{is_repeated, is_times};
-use amqp_props::{Octets, Text};
-use fed_journal::event::Event;
-use fed_journal::place::Place;
+use amqp_props::Octets;
+use indexmap::IndexSet;
 use schedule_words::fields::place_of;
 use schedule_words::words::{is_text, is_word, text_of, word_at, words_before, words_from};
 use std::alloc::{AllocError, Global};
@@ -169,22 +169,13 @@ fn is_unbuilt_declare(words: &[Octets]) -> bool
         && !are_built_queue_options(options)
 }
 
-/// Whether one of the events sets this shovel.
-fn is_shovel_set(events: &[(u32, Event)], place: &Place, name: &Text) -> bool
-    ensures { result ≡ list_any (line_sets_shovel place.now name.now) events.now }
-{
-    events.iter().any(
-        |line| matches!(&line.1, Event::SetShovel { place: at, name: set, .. } if at == place && set == name),
-    )
-}
-
 #[tactic(auto, unfolding(crate::specs::Forms::is_unbuilt_shovel))]
 fn is_unbuilt_shovel(
     alloc: Global,
-    events: &[(u32, Event)],
+    shovels: &IndexSet<ShovelKey>,
     words: &[Octets],
 ) -> Result<bool, AllocError>
-    ensures { IfOk result (λ unbuilt. unbuilt ≡ is_unbuilt_shovel events.now words.now) }
+    ensures { IfOk result (λ unbuilt. unbuilt ≡ is_unbuilt_shovel shovels.now.keys words.now) }
 {
     let mode = word_at(words, 7);
     if is_word(mode, "on-publish") || is_word(mode, "no-ack") {
@@ -192,19 +183,20 @@ fn is_unbuilt_shovel(
     }
     let place = place_of(alloc, word_at(words, 1))?;
     let name = text_of(alloc, word_at(words, 2))?;
-    Ok(is_shovel_set(events, &place, &name))
+    let key = shovel_key(&place, &name)?;
+    Ok(shovels.contains(&key))
 }
 
 /// Whether the form of the line isn't built yet, after what stands before it.
 #[tactic(auto, unfolding(crate::specs::Forms::is_unbuilt))]
 pub(crate) fn is_unbuilt(
     alloc: Global,
-    events: &[(u32, Event)],
+    shovels: &IndexSet<ShovelKey>,
     keyword: Keyword,
     head: &[Octets],
     words: &[Octets],
 ) -> Result<bool, AllocError>
-    ensures { IfOk result (λ unbuilt. unbuilt ≡ is_unbuilt events.now keyword head.now words.now) }
+    ensures { IfOk result (λ unbuilt. unbuilt ≡ is_unbuilt shovels.now.keys keyword head.now words.now) }
 {
     match keyword {
         Keyword::Declare => Ok(is_unbuilt_declare(words)),
@@ -212,7 +204,7 @@ pub(crate) fn is_unbuilt(
             if is_repeated(head) {
                 return Ok(true);
             }
-            is_unbuilt_shovel(alloc, events, words)
+            is_unbuilt_shovel(alloc, shovels, words)
         }
         _ => Ok(false),
     }

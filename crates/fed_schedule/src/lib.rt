@@ -9,5 +9,6 @@ pub mod options;
 pub mod reasons;
 pub mod schedule;
 pub mod script;
+pub mod shovels;
 pub mod statement;
 pub mod times;

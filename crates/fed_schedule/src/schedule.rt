@@ -1,15 +1,16 @@
 //! The reader of schedules.
-ghost use Rattle.std.specs.Prelude.{◌≡◌, ◌≢◌, ◌+◌, ◌≤◌, ◌<◌, Ok, Err, IfOk, IfErr, OnOk, length};
+ghost use Rattle.std.specs.Prelude.{◌≡◌, ◌≢◌, ◌+◌, ◌≤◌, ◌<◌, Ok, Err, IfOk, IfErr, OnOk, List, length};
 ghost use Rattle.std.specs.List.{list_all};
 ghost use Rattle.fed_journal.specs.Events.{IsWritable};
 ghost use Rattle.schedule_words.specs.Words.{is_well_escaped, spaced_length};
-ghost use Rattle.fed_schedule.specs.Schedule.{reading_of, AreWritable, with_broker, lines_of, without_return, is_passed_over, are_escaped, single_reason, reason_of, of_line, judge, with_events, with_line, script_of, reading};
+ghost use Rattle.fed_schedule.specs.Schedule.{reading_of, state_of, script_read, lines_read, with_lines, AreWritable, IsWritableStatement, with_broker, lines_of, without_return, is_passed_over, are_escaped, single_reason, reason_of, of_line, judge, with_events, with_line, reading};
 
 use crate::copies::push_copies;
 use crate::forms::{are_texts, has_empty_word, is_miscounted, is_unbuilt, keyword_of};
 use crate::keyword::Keyword;
 use crate::reasons::{has_bad_names, has_bad_number, has_bad_option, has_bad_value, is_late};
 use crate::script::{LineReason, MAX_EVENTS, MAX_SCHEDULE, ScheduleFault, Script};
+use crate::shovels::{ShovelKey, add_shovel};
 use crate::statement::{Statement, statement_of};
 use crate::times::{count_of, head_of, is_bad_head, is_single, line_of};
 use amqp_props::{Octets, Text};
@@ -82,14 +83,15 @@ fn single_reason(head: &[Octets], words: &[Octets]) -> LineReason
 fn reason_of(
     alloc: Global,
     script: &Script,
+    shovels: &IndexSet<ShovelKey>,
     keyword: Keyword,
     head: &[Octets],
     words: &[Octets],
 ) -> Result<Option<LineReason>, AllocError>
     requires { spaced_length words.now ≤ MAX_SCHEDULE + 1 }
-    ensures { IfOk result (λ reason. reason ≡ reason_of (reading_of script.now) keyword head.now words.now) }
+    ensures { IfOk result (λ reason. reason ≡ reason_of (state_of script.now shovels.now.keys) keyword head.now words.now) }
 {
-    if is_unbuilt(alloc, script.events.as_slice(), keyword, head, words)? {
+    if is_unbuilt(alloc, shovels, keyword, head, words)? {
         return Ok(Some(LineReason::Word));
     }
     if is_late(!script.events.is_empty(), keyword) {
@@ -121,11 +123,12 @@ fn reason_of(
 fn of_line(
     alloc: Global,
     script: &Script,
+    shovels: &IndexSet<ShovelKey>,
     head: &[Octets],
     words: &[Octets],
 ) -> Result<Result<Statement, LineReason>, AllocError>
     requires { spaced_length words.now ≤ MAX_SCHEDULE + 1 }
-    ensures { IfOk result (λ judged. judged ≡ of_line (reading_of script.now) head.now words.now) }
+    ensures { IfOk result (λ judged. judged ≡ of_line (state_of script.now shovels.now.keys) head.now words.now) }
 {
     if words.is_empty() {
         return Ok(Err(LineReason::Count));
@@ -136,7 +139,7 @@ fn of_line(
     let Some(keyword) = keyword_of(word_at(words, 0)) else {
         return Ok(Err(LineReason::Word));
     };
-    match reason_of(alloc, script, keyword, head, words)? {
+    match reason_of(alloc, script, shovels, keyword, head, words)? {
         Some(reason) => Ok(Err(reason)),
         None => Ok(Ok(statement_of(alloc, keyword, words)?)),
     }
@@ -147,29 +150,49 @@ fn of_line(
 fn judge(
     alloc: Global,
     script: &Script,
+    shovels: &IndexSet<ShovelKey>,
     words: &[Octets],
 ) -> Result<Result<Statement, LineReason>, AllocError>
     requires { spaced_length words.now ≤ MAX_SCHEDULE + 1 }
-    ensures { IfOk result (λ judged. judged ≡ judge (reading_of script.now) words.now) }
+    ensures { IfOk result (λ judged. judged ≡ judge (state_of script.now shovels.now.keys) words.now) }
 {
     if !are_texts(alloc, words)? {
         return Ok(Err(LineReason::Text));
     }
-    of_line(alloc, script, head_of(words), line_of(words))
+    of_line(alloc, script, shovels, head_of(words), line_of(words))
+}
+
+/// The same, where want of memory is a fault of the schedule's reader.
+fn statement_at(
+    alloc: Global,
+    script: &Script,
+    shovels: &IndexSet<ShovelKey>,
+    words: &[Octets],
+) -> Result<Result<Statement, LineReason>, ScheduleFault>
+    requires { spaced_length words.now ≤ MAX_SCHEDULE + 1 }
+    ensures judged { IfOk result (λ judged. judged ≡ judge (state_of script.now shovels.now.keys) words.now) }
+    ensures writable { IfOk result (λ judged. IfOk judged IsWritableStatement) }
+    ensures err { IfErr result (λ fault. fault ≡ ScheduleFault.Memory) }
+{
+    match judge(alloc, script, shovels, words) {
+        Ok(judged) => Ok(judged),
+        Err(_) => Err(ScheduleFault::Memory),
+    }
 }
 
 /// Adds an event of a line, so many times.
 #[tactic(auto, unfolding(crate::specs::Schedule::with_events), using(crate::proofs::Writable::copies_writable))]
 fn push_events(
     script: &mut Script,
+    shovels: &mut IndexSet<ShovelKey>,
     number: u32,
     count: u16,
     event: &Event,
 ) -> Result<(), ScheduleFault>
     requires writable { IsWritable event.now }
     requires written { AreWritable script.old.events.items }
-    ensures ok { OnOk result (with_events number (reading_of script.old) count event.now ≡ Ok (reading_of script.new)) }
-    ensures err { IfErr result (λ fault. fault ≢ ScheduleFault.Memory → with_events number (reading_of script.old) count event.now ≡ Err fault) }
+    ensures ok { OnOk result (with_events number (state_of script.old shovels.old.keys) count event.now ≡ Ok (state_of script.new shovels.new.keys)) }
+    ensures err { IfErr result (λ fault. fault ≢ ScheduleFault.Memory → with_events number (state_of script.old shovels.old.keys) count event.now ≡ Err fault) }
     ensures brokers { script.new.brokers.items ≡ script.old.brokers.items }
     ensures writable { OnOk result (AreWritable script.new.events.items) }
 {
@@ -178,6 +201,9 @@ fn push_events(
             line: number,
             reason: LineReason::Events,
         });
+    }
+    if add_shovel(shovels, event).is_err() {
+        return Err(ScheduleFault::Memory);
     }
     if push_copies(&mut script.events, number, count, event).is_err() {
         return Err(ScheduleFault::Memory);
@@ -194,8 +220,8 @@ fn push_broker(
     name: Text,
 ) -> Result<(), ScheduleFault>
     requires { names.old.keys ≡ script.old.brokers.items }
-    ensures ok { OnOk result (with_broker number (reading_of script.old) name ≡ Ok (reading_of script.new)) }
-    ensures err { IfErr result (λ fault. fault ≢ ScheduleFault.Memory → with_broker number (reading_of script.old) name ≡ Err fault) }
+    ensures ok { (ks : List ShovelKey) → OnOk result (with_broker number (state_of script.old ks) name ≡ Ok (state_of script.new ks)) }
+    ensures err { (ks : List ShovelKey) → IfErr result (λ fault. fault ≢ ScheduleFault.Memory → with_broker number (state_of script.old ks) name ≡ Err fault) }
     ensures names { OnOk result (names.new.keys ≡ script.new.brokers.items) }
     ensures events { OnOk result (script.new.events.items ≡ script.old.events.items) }
 {
@@ -218,21 +244,22 @@ fn push_broker(
 }
 
 /// Adds a line to a part of a schedule.
-#[tactic(auto, unfolding(crate::specs::Schedule::with_line), using(crate::proofs::Writable::judge_event))]
+#[tactic(auto, unfolding(crate::specs::Schedule::with_line))]
 fn read_line(
     alloc: Global,
     script: &mut Script,
     names: &mut IndexSet<Text>,
+    shovels: &mut IndexSet<ShovelKey>,
     number: u32,
     line: &[u8],
 ) -> Result<(), ScheduleFault>
     requires named { names.old.keys ≡ script.old.brokers.items }
     requires written { AreWritable script.old.events.items }
     requires within { length line.now ≤ MAX_SCHEDULE }
-    ensures ok { OnOk result (with_line number (reading_of script.old) line.now ≡ Ok (reading_of script.new)) }
+    ensures ok { OnOk result (with_line number (state_of script.old shovels.old.keys) line.now ≡ Ok (state_of script.new shovels.new.keys)) }
     ensures names { OnOk result (names.new.keys ≡ script.new.brokers.items) }
     ensures writable { OnOk result (AreWritable script.new.events.items) }
-    ensures err { IfErr result (λ fault. fault ≢ ScheduleFault.Memory → with_line number (reading_of script.old) line.now ≡ Err fault) }
+    ensures err { IfErr result (λ fault. fault ≢ ScheduleFault.Memory → with_line number (state_of script.old shovels.old.keys) line.now ≡ Err fault) }
 {
     let line = without_return(line);
     if is_passed_over(line) {
@@ -240,10 +267,10 @@ fn read_line(
     }
     let words = words_of(alloc, line).map_err(|_| ScheduleFault::Memory)?;
     let count = count_of(head_of(words.as_slice()));
-    match judge(alloc, script, words.as_slice()).map_err(|_| ScheduleFault::Memory)? {
+    match statement_at(alloc, script, shovels, words.as_slice())? {
         Ok(Statement::Broker(name)) => push_broker(script, names, number, name),
         Ok(Statement::Event(event)) => {
-            let pushed = push_events(script, number, count, &event);
+            let pushed = push_events(script, shovels, number, count, &event);
             drop(event);
             pushed
         }
@@ -254,30 +281,55 @@ fn read_line(
     }
 }
 
+/// Adds lines, of which the first has number 1.
+#[tactic(auto, unfolding(crate::specs::Schedule::with_lines))]
+fn add_lines(
+    alloc: Global,
+    script: &mut Script,
+    names: &mut IndexSet<Text>,
+    shovels: &mut IndexSet<ShovelKey>,
+    lines: &[Octets],
+) -> Result<(), ScheduleFault>
+    requires named { names.old.keys ≡ script.old.brokers.items }
+    requires written { AreWritable script.old.events.items }
+    requires within { length lines.now ≤ MAX_SCHEDULE + 1 }
+    requires spaced { spaced_length lines.now ≤ MAX_SCHEDULE + 1 }
+    ensures ok { OnOk result (with_lines 1 (Ok (state_of script.old shovels.old.keys)) lines.now ≡ Ok (state_of script.new shovels.new.keys)) }
+    ensures writable { OnOk result (AreWritable script.new.events.items) }
+    ensures err { IfErr result (λ fault. fault ≢ ScheduleFault.Memory → with_lines 1 (Ok (state_of script.old shovels.old.keys)) lines.now ≡ Err fault) }
+{
+    for (index, line) in lines.iter().enumerate() {
+        read_line(
+            alloc,
+            script,
+            names,
+            shovels,
+            index as u32 + 1,
+            line.as_slice(),
+        )?;
+    }
+    Ok(())
+}
+
 /// Reads the lines of a schedule.
-#[tactic(auto, unfolding(crate::specs::Schedule::script_of, crate::specs::Schedule::with_lines))]
+#[tactic(auto, unfolding(crate::specs::Schedule::lines_read))]
 fn read_lines(alloc: Global, lines: &[Octets]) -> Result<Script, ScheduleFault>
     requires within { length lines.now ≤ MAX_SCHEDULE + 1 }
     requires spaced { spaced_length lines.now ≤ MAX_SCHEDULE + 1 }
-    ensures ok { IfOk result (λ script. script_of lines.now ≡ Ok (reading_of script)) }
+    ensures ok { IfOk result (λ script. script_read (lines_read lines.now) ≡ Ok (reading_of script)) }
     ensures writable { IfOk result (λ script. AreWritable script.events.items) }
-    ensures err { IfErr result (λ fault. fault ≢ ScheduleFault.Memory → script_of lines.now ≡ Err fault) }
+    ensures err { IfErr result (λ fault. fault ≢ ScheduleFault.Memory → lines_read lines.now ≡ Err fault) }
 {
     let mut script = Script {
         brokers: Vec::new(alloc),
         events: Vec::new(alloc),
     };
     let mut names = IndexSet::new(alloc);
-    for (index, line) in lines.iter().enumerate() {
-        read_line(
-            alloc,
-            &mut script,
-            &mut names,
-            index as u32 + 1,
-            line.as_slice(),
-        )?;
+    let mut shovels = IndexSet::new(alloc);
+    match add_lines(alloc, &mut script, &mut names, &mut shovels, lines) {
+        Ok(()) => Ok(script),
+        Err(fault) => Err(fault),
     }
-    Ok(script)
 }
 
 /// Reads a schedule.

@@ -1,5 +1,5 @@
 -- Names of links (RabbitMQ, Shovel and Federation: each link has one name).
-use Rattle.std.specs.Prelude.{ℕ, List, [], ◌∷◌, ◌++◌, Bool, false, ◌||◌, if◌then◌else◌, ◌==◌, length, flat_map, codes}
+use Rattle.std.specs.Prelude.{ℕ, List, [], ◌∷◌, ◌++◌, Bool, false, ◌||◌, flat_map, codes}
 use Rattle.std.specs.List.{list_any}
 use Rattle.fed_journal.specs.Words.{word, place_word}
 use Rattle.schedule_words.specs.Words.{text_of, pieces_of}

@@ -349,11 +349,7 @@ fn argument_of(alloc: Global, front: &str, word: &[u8]) -> Result<(String, Field
 
 /// The table of the words, which begin so.
 #[tactic(auto, unfolding(crate::specs::Values::arguments_of))]
-pub fn arguments_of(
-    alloc: Global,
-    front: &str,
-    words: &[Octets],
-) -> Result<FieldTable, AllocError>
+pub fn arguments_of(alloc: Global, front: &str, words: &[Octets]) -> Result<FieldTable, AllocError>
     ensures { IfOk result (λ table. table ≡ arguments_of front.now words.now) }
 {
     let mut pairs = Vec::new(alloc);
