@@ -11,7 +11,7 @@ use Rattle.broker_store.specs.Mail.{entered, left, fresh}
 use Rattle.broker_store.specs.Queues.{Standing, Named, changed, with_mail, IsLast, AreAbove}
 
 -- what passes stays, and the last goes
-filter_push : {X : Type 0} (test : X → Bool) (xs : List X) (y : X) → All (λ x. test x ≡ true) xs → test y ≡ false → filter test (xs ++ y ∷ []) ≡ xs
+pub filter_push : {X : Type 0} (test : X → Bool) (xs : List X) (y : X) → All (λ x. test x ≡ true) xs → test y ≡ false → filter test (xs ++ y ∷ []) ≡ xs
 filter_push test [] y all off = ap (λ b. cond b (y ∷ []) []) off
 filter_push test (x ∷ xs) y all off =
     ap (λ b. cond b (x ∷ filter test (xs ++ y ∷ [])) (filter test (xs ++ y ∷ []))) (All-head (λ x. test x ≡ true) x xs all)

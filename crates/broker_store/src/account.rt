@@ -1,6 +1,6 @@
 //! What a session of a link published at a virtual host and isn't answered for.
 
-ghost use Rattle.std.specs.Prelude.{◌≡◌, ◌<◌, [], ◌∷◌, ◌++◌, if◌then◌else◌, All, OnOk};
+ghost use Rattle.std.specs.Prelude.{◌≡◌, ◌<◌, [], ◌∷◌, ◌++◌, if◌then◌else◌, All, OnOk, OnErr};
 ghost use Rattle.confirm_core.specs.Waits.{all_stored, released, without};
 ghost use Rattle.broker_store.specs.Confirms.{is_of as is_account_of, with_ledger};
 
@@ -32,7 +32,7 @@ impl Account {
     ///
     /// # Errors
     ///
-    /// For want of memory.
+    /// For want of memory; the account is then as it was.
     pub(crate) fn open(
         &mut self,
         link: &Text,
@@ -41,7 +41,8 @@ impl Account {
         waits: &[CopyNo],
     ) -> Result<(), AllocError>
         requires { All (λ publication. publication.number < number) self.old.ledger }
-        ensures { OnOk result (self.new ≡ (if is_account_of link.now session self.old then with_ledger (λ ledger. ledger ++ record { number = number; waits = waits.now } ∷ []) self.old else self.old)) }
+        ensures ok { OnOk result (self.new ≡ (if is_account_of link.now session self.old then with_ledger (λ ledger. ledger ++ record { number = number; waits = waits.now } ∷ []) self.old else self.old)) }
+        ensures err { OnErr result (self.new ≡ self.old) }
     {
         if !self.is_of(link, session) {
             return Ok(());

@@ -1,10 +1,10 @@
 //! The confirms that a virtual host owes to sessions of links for what they published there.
 
-ghost use Rattle.std.specs.Prelude.{◌≡◌, ◌==◌, [], ◌∷◌, ◌++◌, OnOk, length, not, map, filter, find};
+ghost use Rattle.std.specs.Prelude.{◌≡◌, ◌==◌, [], ◌∷◌, ◌++◌, OnOk, OnErr, true, false, length, not, map, filter, find};
 ghost use Rattle.std.specs.Option.{option_copied};
 ghost use Rattle.std.specs.List.{list_any};
 ghost use Rattle.confirm_core.specs.Waits.{all_stored, released, without, ready_numbers, least};
-ghost use Rattle.broker_store.specs.Confirms.{is_of, ledger_of, all_ledgers, its_ledger, with_account, opened, all_left, AreBelow};
+ghost use Rattle.broker_store.specs.Confirms.{is_of, ledger_of, all_ledgers, its_ledger, opened, all_left, AreBelow};
 ghost use Rattle.queue_core.specs.Rows.{is_ready};
 
 use crate::account::Account;
@@ -49,7 +49,7 @@ impl Confirms {
     ///
     /// # Errors
     ///
-    /// For want of memory; the accounts may then be changed.
+    /// For want of memory; the accounts are then as they were.
     pub fn open(
         &mut self,
         link: &Text,
@@ -58,11 +58,14 @@ impl Confirms {
         waits: &[CopyNo],
     ) -> Result<(), AllocError>
         requires { AreBelow number self.old }
-        ensures { OnOk result (self.new ≡ opened link.now session number waits.now self.old) }
+        ensures ok { OnOk result (self.new ≡ opened link.now session number waits.now self.old) }
+        ensures err { OnErr result (self.new ≡ self.old) }
     {
-        add_account(self.alloc, &mut self.accounts, link, session)?;
-        open_in(&mut self.accounts, link, session, number, waits)?;
-        Ok(())
+        if has_account(&self.accounts, link, session) {
+            open_or_not(&mut self.accounts, link, session, number, waits)
+        } else {
+            add_account(self.alloc, &mut self.accounts, link, session, number, waits)
+        }
     }
 
     /// All copies were stored, so no publication waits for anything.
@@ -141,27 +144,34 @@ fn has_account(accounts: &[Account], link: &Text, session: u32) -> bool
     accounts.iter().any(|account| account.is_of(link, session))
 }
 
-/// Adds an empty account for the session, unless it has one.
+/// Adds an account for the session, with this publication.
+///
+/// # Errors
+///
+/// For want of memory; the accounts are then as they were.
 fn add_account(
     alloc: Global,
     accounts: &mut Vec<Account>,
     link: &Text,
     session: u32,
+    number: u64,
+    waits: &[CopyNo],
 ) -> Result<(), AllocError>
-    ensures { OnOk result (accounts.new.items ≡ with_account link.now session accounts.old.items) }
+    requires { list_any (is_of link.now session) accounts.old.items ≡ false }
+    ensures ok { OnOk result (accounts.new.items ≡ opened link.now session number waits.now accounts.old.items) }
+    ensures err { OnErr result (accounts.new.items ≡ accounts.old.items) }
 {
-    if has_account(accounts, link, session) {
-        return Ok(());
-    }
+    let mut ledger = Ledger::new(alloc);
+    ledger.open(number, waits)?;
     accounts.push(Account {
         link: link.clone()?,
         session,
-        ledger: Ledger::new(alloc),
+        ledger,
     })?;
     Ok(())
 }
 
-/// Opens the publication in the session's account.
+/// Opens the publication in the session's account; after an error it may be open there, or not.
 fn open_in(
     accounts: &mut Vec<Account>,
     link: &Text,
@@ -170,12 +180,39 @@ fn open_in(
     waits: &[CopyNo],
 ) -> Result<(), AllocError>
     requires { AreBelow number accounts.old.items }
-    ensures { OnOk result (accounts.new.items ≡ its_ledger link.now session (λ ledger. ledger ++ record { number = number; waits = waits.now } ∷ []) accounts.old.items) }
+    ensures ok { OnOk result (accounts.new.items ≡ its_ledger link.now session (λ ledger. ledger ++ record { number = number; waits = waits.now } ∷ []) accounts.old.items) }
+    ensures err { OnErr result (its_ledger link.now session (without number) accounts.new.items ≡ accounts.old.items) }
 {
     for account in accounts.iter_mut() {
         account.open(link, session, number, waits)?;
     }
     Ok(())
+}
+
+/// Opens the publication in the session's account.
+///
+/// # Errors
+///
+/// For want of memory; the accounts are then as they were.
+fn open_or_not(
+    accounts: &mut Vec<Account>,
+    link: &Text,
+    session: u32,
+    number: u64,
+    waits: &[CopyNo],
+) -> Result<(), AllocError>
+    requires there { list_any (is_of link.now session) accounts.old.items ≡ true }
+    requires below { AreBelow number accounts.old.items }
+    ensures ok { OnOk result (accounts.new.items ≡ opened link.now session number waits.now accounts.old.items) }
+    ensures err { OnErr result (accounts.new.items ≡ accounts.old.items) }
+{
+    match open_in(accounts, link, session, number, waits) {
+        Ok(()) => Ok(()),
+        Err(e) => {
+            answer(accounts, link, session, number);
+            Err(e)
+        }
+    }
 }
 
 /// No publication waits for anything any more.

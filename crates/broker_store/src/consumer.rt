@@ -33,11 +33,7 @@ pub fn is_consumer(consumer: &Consumer, who: Client, tag: &str) -> bool
 }
 
 /// The client's consumer of that tag.
-pub fn find_consumer<'a>(
-    consumers: &'a [Consumer],
-    who: Client,
-    tag: &str,
-) -> Option<&'a Consumer>
+pub fn find_consumer<'a>(consumers: &'a [Consumer], who: Client, tag: &str) -> Option<&'a Consumer>
     ensures { option_copied result ≡ find (is_this_consumer who tag.now) consumers.now }
 {
     consumers
