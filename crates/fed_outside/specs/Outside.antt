@@ -1,6 +1,7 @@
 -- What a shelf, a sink, a peer and a door do to what they tell, and what a fault shows.
 -- This project's own: no public document has these definitions.
 use Rattle.std.specs.Prelude.{◌≡◌, ℕ, ◌+◌, ◌^◌, ◌<◌, ◌≤◌, ◌⊎◌, List, [], ◌∷◌, ◌++◌, length, take, drop, Option, Some, None, option_map}
+use Rattle.fed_outside.specs.Plan.{raised}
 use Rattle.fed_outside.specs.declared.shelf.Loaded.{Loaded}
 use Rattle.fed_outside.specs.declared.shelf.Loaded.TheVariants.{Bytes, Absent, TooLong, Failed, Memory}
 
@@ -15,6 +16,14 @@ grown told octets = option_map (λ taken. taken ++ octets) told
 -- A prefix of the piece went out.
 abbrev pub GrownByPrefix : Option (List ℕ) → Option (List ℕ) → List ℕ → Type 0
 GrownByPrefix before now piece = (n : ℕ) × (now ≡ grown before (take n piece))
+
+-- the names that loads asked for, with this one behind them
+abbrev pub with_name : Option (List (List ℕ)) → List ℕ → Option (List (List ℕ))
+with_name asked name = option_map (λ names. names ++ name ∷ []) asked
+
+-- a count that went up by one; it stays at the limit of 64 bits
+abbrev pub once_more : Option ℕ → Option ℕ
+once_more count = option_map raised count
 
 -- what is asked of the octets, if a load gave some
 abbrev pub IfBytes : Loaded → (List ℕ → Type 0) → Type 0

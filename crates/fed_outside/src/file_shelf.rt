@@ -57,6 +57,8 @@ impl<R: Files + Drop> Shelf for FileShelf<R> {
 
     ghost files = { λ _. None };
 
+    ghost asked = { λ _. None };
+
     fn load(&mut self, alloc: Global, name: &str, most: usize) -> Loaded
         ensures fault { result ≡ Loaded.Failed → self.new ≡ raised self.old }
         ensures no_fault { result ≢ Loaded.Failed → self.new ≡ self.old }

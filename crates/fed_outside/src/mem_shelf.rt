@@ -1,5 +1,5 @@
 // A shelf in memory.
-ghost use Rattle.std.specs.Prelude.{◌≡◌, ◌≢◌, ◌≤◌, ◌↔◌, length, string_bytes, Some, is_some, IsSome, option_copied, bytes_eq};
+ghost use Rattle.std.specs.Prelude.{◌≡◌, ◌≢◌, ◌≤◌, ◌↔◌, length, string_bytes, None, Some, is_some, IsSome, option_copied, bytes_eq};
 ghost use Rattle.fed_outside.specs.Outside.{IfBytes, IsContent, Answers};
 ghost use Rattle.fed_outside.specs.Fakes.{content_of};
 ghost use Rattle.fed_outside.specs.Plan.{planned, judged};
@@ -112,6 +112,8 @@ impl Shelf for MemShelf {
     ghost faults = { λ s. s.plan.faults };
 
     ghost files = { λ s. Some (content_of s.files) };
+
+    ghost asked = { λ _. None };
 
     fn load(&mut self, alloc: Global, name: &str, most: usize) -> Loaded
         ensures after { self.new ≡ record self.old { plan = judged (is_some (planned self.old.plan)) self.old.plan } }

@@ -92,6 +92,8 @@ impl Sink for MemSink {
 
     ghost told = { λ s. Some s.octets };
 
+    ghost puts = { λ s. Some s.plan.calls };
+
     fn put(&mut self, piece: &[u8]) -> bool
         ensures after { self.new ≡ sink_after self.old piece.now }
         ensures fault { result ≡ not (is_fault (planned self.old.plan) (self.old.room - length self.old.octets) piece.now) }

@@ -20,7 +20,7 @@ pub enum Loaded {
 
 /// Named files that can be read whole.
 pub trait Shelf {
-    ghost use Rattle.fed_outside.specs.Outside.{Rose, IfBytes, Answers};
+    ghost use Rattle.fed_outside.specs.Outside.{Rose, IfBytes, Answers, with_name};
 
     /// How many calls failed. It never falls.
     ghost faults: { Self → ℕ };
@@ -28,11 +28,15 @@ pub trait Shelf {
     /// The content of each name's file, where the shelf tells its files.
     ghost files: { Self → Option (List ℕ → Option (List ℕ)) };
 
+    /// The names that loads asked for, in order, where the shelf tells them.
+    ghost asked: { Self → Option (List (List ℕ)) };
+
     /// Loads the file of that name, if it has at most `most` octets.
     fn load(&mut self, alloc: Global, name: &str, most: usize) -> Loaded
         ensures bounded { IfBytes result (λ bytes. length bytes ≤ most) }
         ensures answers { Answers (files self.old) name.now most result }
         ensures files { files self.new ≡ files self.old }
+        ensures asked { asked self.new ≡ with_name (asked self.old) name.now }
         ensures failed { result ≡ Loaded.Failed → Rose (faults self.old) (faults self.new) }
         ensures later { faults self.old ≤ faults self.new };
 }

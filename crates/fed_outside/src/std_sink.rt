@@ -45,6 +45,8 @@ impl<W: Write + Drop> Sink for StdSink<W> {
 
     ghost told = { λ _. None };
 
+    ghost puts = { λ _. None };
+
     fn put(&mut self, piece: &[u8]) -> bool
         ensures count { self.new ≡ (if result then self.old else raised self.old) }
 

@@ -1,5 +1,5 @@
 -- What the listing says of queues.
-use Rattle.std.specs.Prelude.{ℕ, List, [], ◌++◌, Bool, true, false, not, if◌then◌else◌, Option, Some, None, filter, filter_map, flat_map, count_by, codes}
+use Rattle.std.specs.Prelude.{ℕ, List, [], ◌++◌, Bool, true, false, not, Option, Some, None, filter, filter_map, flat_map, count_by, codes}
 use Rattle.std.specs.Fmt.{decimal}
 use Rattle.fed_journal.specs.declared.place.Place.{Place}
 use Rattle.fed_journal.specs.declared.entry.Entry.{Entry}

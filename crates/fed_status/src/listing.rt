@@ -1,5 +1,5 @@
 //! The listing of a journal.
-ghost use Rattle.std.specs.Prelude.{◌≡◌, ◌++◌, ◌≤◌, All, IfOk, OnOk, flat_map, length};
+ghost use Rattle.std.specs.Prelude.{◌≡◌, ◌++◌, ◌≤◌, All, IfOk, OnOk, OnErr, flat_map, length};
 ghost use Rattle.std.specs.Option.{option_to_list};
 ghost use Rattle.fed_journal.specs.Copies.{IsFitting};
 ghost use Rattle.fed_journal.specs.declared.journal.TheConstants.{MAX_ENTRIES};
@@ -91,9 +91,38 @@ fn push_links(
     Ok(())
 }
 
-/// Appends the queues and bindings of the journal. After an `Err`, want of memory, the page may hold a
-/// part of them.
+/// The lines of the journal's queues and bindings.
 #[tactic(auto, unfolding(crate::specs::Listing::object_lines))]
+fn object_page(alloc: Global, journal: &[Entry]) -> Result<Page, AllocError>
+    requires fits { All IsFitting journal.now }
+    requires within { length journal.now ≤ MAX_ENTRIES }
+    ensures { IfOk result (λ page. page ≡ object_lines journal.now) }
+{
+    let places = places_of(alloc, journal)?;
+    let mut page = Page::new(alloc);
+    push_queues(alloc, journal, places.as_slice(), &mut page)?;
+    push_bindings(alloc, journal, places.as_slice(), &mut page)?;
+    Ok(page)
+}
+
+/// The listing of the journal.
+#[tactic(auto, unfolding(crate::specs::Listing::listing))]
+fn listing_page(alloc: Global, journal: &[Entry]) -> Result<Page, AllocError>
+    requires fits { All IsFitting journal.now }
+    requires within { length journal.now ≤ MAX_ENTRIES }
+    ensures { IfOk result (λ page. page ≡ listing journal.now) }
+{
+    let links = links_of(alloc, journal)?;
+    let mut page = object_page(alloc, journal)?;
+    push_links(alloc, journal, links.as_slice(), &mut page)?;
+    Ok(page)
+}
+
+/// Appends the queues and bindings of the journal.
+///
+/// # Errors
+///
+/// For want of memory, and nothing is appended then.
 pub fn push_object_lines(
     alloc: Global,
     journal: &[Entry],
@@ -101,107 +130,24 @@ pub fn push_object_lines(
 ) -> Result<(), AllocError>
     requires fits { All IsFitting journal.now }
     requires within { length journal.now ≤ MAX_ENTRIES }
-    ensures { OnOk result (page.new ≡ page.old ++ object_lines journal.now) }
+    ensures lines { OnOk result (page.new ≡ page.old ++ object_lines journal.now) }
+    ensures untouched { OnErr result (page.new ≡ page.old) }
 {
-    let places = places_of(alloc, journal)?;
-    push_queues(alloc, journal, places.as_slice(), page)?;
-    push_bindings(alloc, journal, places.as_slice(), page)
+    let lines = object_page(alloc, journal)?;
+    page.push(lines.as_str())
 }
 
-/// Appends the listing of the journal: its queues, bindings and links. After an `Err`, want of memory,
-/// the page may hold a part of it.
-#[tactic(auto, unfolding(crate::specs::Listing::listing))]
+/// Appends the listing of the journal: its queues, bindings and links.
+///
+/// # Errors
+///
+/// For want of memory, and nothing is appended then.
 pub fn push_listing(alloc: Global, journal: &[Entry], page: &mut Page) -> Result<(), AllocError>
     requires fits { All IsFitting journal.now }
     requires within { length journal.now ≤ MAX_ENTRIES }
-    ensures { OnOk result (page.new ≡ page.old ++ listing journal.now) }
+    ensures listing { OnOk result (page.new ≡ page.old ++ listing journal.now) }
+    ensures untouched { OnErr result (page.new ≡ page.old) }
 {
-    let links = links_of(alloc, journal)?;
-    push_object_lines(alloc, journal, page)?;
-    push_links(alloc, journal, links.as_slice(), page)
-}
-
-#[cfg(test)]
-mod tests {
-    use super::*;
-    use amqp_props::QueueOptions;
-    use fed_journal::event::Shovel;
-    use fed_journal::link::AckMode;
-    use std::test::Fail;
-
-    fn text(alloc: Global, text: &str) -> Result<Text, AllocError> {
-        Text::from_str(alloc, text)
-    }
-
-    fn place(alloc: Global) -> Result<Place, AllocError> {
-        Ok(Place {
-            broker: text(alloc, "a")?,
-            vhost: text(alloc, "/")?,
-        })
-    }
-
-    fn begun(alloc: Global) -> Result<Entry, AllocError>
-        ensures { IfOk result (λ entry. IsFitting entry) }
-    {
-        Ok(Entry::Begun {
-            broker: text(alloc, "a")?,
-            cluster: text(alloc, "a")?,
-            kept: text(alloc, "{}")?,
-        })
-    }
-
-    fn queue_made(alloc: Global) -> Result<Entry, AllocError>
-        ensures { IfOk result (λ entry. IsFitting entry) }
-    {
-        Ok(Entry::MadeQueue {
-            place: place(alloc)?,
-            queue: text(alloc, "q")?,
-            options: QueueOptions {
-                durable: true,
-                exclusive: false,
-                auto_delete: false,
-            },
-            owner: None,
-        })
-    }
-
-    fn shovel_set(alloc: Global) -> Result<Entry, AllocError>
-        ensures { IfOk result (λ entry. IsFitting entry) }
-    {
-        Ok(Entry::ShovelSet {
-            place: place(alloc)?,
-            name: text(alloc, "s")?,
-            shovel: Shovel {
-                source: text(alloc, "a")?,
-                source_queue: text(alloc, "q")?,
-                target: text(alloc, "a")?,
-                target_queue: text(alloc, "q")?,
-                mode: AckMode::OnConfirm,
-            },
-        })
-    }
-
-    fn journal(alloc: Global) -> Result<Vec<Entry>, AllocError>
-        ensures fits { IfOk result (λ journal. All IsFitting journal.items) }
-        ensures within { IfOk result (λ journal. length journal.items ≤ MAX_ENTRIES) }
-    {
-        let mut journal = Vec::new(alloc);
-        journal.push(begun(alloc)?)?;
-        journal.push(queue_made(alloc)?)?;
-        journal.push(shovel_set(alloc)?)?;
-        Ok(journal)
-    }
-
-    #[test]
-    fn a_queue_and_a_link(rt: HostRuntime) -> Result<(), Fail> {
-        let alloc = rt.alloc();
-        let journal = journal(alloc)?;
-        let mut page = Page::new(alloc);
-        push_listing(alloc, journal.as_slice(), &mut page)?;
-        assert_eq!(rt;
-            page.as_str(),
-            "queue a q 0 0\nlink s/a/s gone 0 0 0 0 0 0 0\n"
-        );
-        Ok(())
-    }
+    let lines = listing_page(alloc, journal)?;
+    page.push(lines.as_str())
 }

@@ -4,7 +4,7 @@ use Rattle.std.specs.Fmt.{decimal}
 use Rattle.fed_journal.specs.Words.{word}
 use Rattle.fed_schedule.specs.declared.script.LineReason.{LineReason}
 use Rattle.fed_schedule.specs.declared.script.LineReason.TheVariants as why
-use Rattle.fed_outside.specs.Outside.{Rose, grown, GrownByPrefix}
+use Rattle.fed_outside.specs.Outside.{Rose, grown, GrownByPrefix, once_more}
 use Rattle.fedrun_cli.specs.declared.ending.Ending.{Ending}
 use Rattle.fedrun_cli.specs.declared.ending.Ending.TheVariants.{Done, Memory, Usage, Line, Events, ReadFault, WriteFault, FileTooLong, Places, Limit, Report, Absent}
 use Rattle.fedrun_cli.specs.declared.ending.RunLimit.{RunLimit}
@@ -74,6 +74,24 @@ error_line Absent file = word_line (codes "fedrun: absent ") file
 -- A sink took the whole of the octets, or a prefix of them where its own count rose.
 abbrev pub Took : Option (List ℕ) → Option (List ℕ) → ℕ → ℕ → List ℕ → Type 0
 Took before now faults_before faults_now octets = (now ≡ grown before octets) ⊎ (GrownByPrefix before now octets × Rose faults_before faults_now)
+
+-- what a sink tells of itself: its octets, and its counts of puts and of faults
+pub record SinkView : Type 0 where
+  pub told : Option (List ℕ)
+  pub puts : Option ℕ
+  pub faults : ℕ
+
+-- The sink was given these octets in one put.
+abbrev pub PutOnce : SinkView → SinkView → List ℕ → Type 0
+PutOnce before now octets = Took before.told now.told before.faults now.faults octets × (now.puts ≡ once_more before.puts)
+
+abbrev pub is_done : Ending → Bool
+is_done Done = true
+is_done _ = false
+
+-- Nothing is put into the error sink where the command is done, and else the line of its ending, in one put.
+abbrev pub Says : Ending → List ℕ → SinkView → SinkView → Type 0
+Says ending file before now = (is_done ending ≡ true → now ≡ before) × (is_done ending ≡ false → PutOnce before now (error_line ending file))
 
 -- an ending whose line has to be made in memory first
 abbrev pub needs_memory : Ending → Bool

@@ -1,5 +1,5 @@
 -- What a run prints.
-use Rattle.std.specs.Prelude.{◌≡◌, ℕ, ◌+◌, ◌-◌, ◌<◌, if◌then◌else◌, nat_lt, List, [], ◌∷◌, ◌++◌, length, sum_by, flat_map, Option, Some, None, Result, Ok, Err, codes}
+use Rattle.std.specs.Prelude.{◌≡◌, ℕ, ◌+◌, ◌-◌, ◌<◌, if◌then◌else◌, nat_lt, List, [], ◌∷◌, ◌++◌, length, sum_by, flat_map, Option, Some, None, Ok, Err, codes}
 use Rattle.std.specs.Fmt.{decimal}
 use Rattle.fed_journal.specs.declared.entry.Entry.{Entry}
 use Rattle.fed_journal.specs.declared.event.Event.{Event}
@@ -16,7 +16,6 @@ use Rattle.fedrun_cli.specs.declared.ending.Ending.{Ending}
 use Rattle.fedrun_cli.specs.declared.ending.Ending.TheVariants.{Memory, Limit, Report}
 use Rattle.fedrun_cli.specs.declared.ending.RunLimit.{RunLimit}
 use Rattle.fedrun_cli.specs.declared.ending.RunLimit.TheVariants.{Links, Entries, Bytes}
-use Rattle.fedrun_cli.specs.declared.report.TheConstants.{MAX_REPORT}
 
 -- a reason in a word
 unfoldable pub reason_word : Reason → List ℕ
@@ -98,7 +97,7 @@ report J events = report_of J (length events) (run J events)
 -- an output with a piece more; none once it is too long
 abbrev pub joined : Option (List ℕ) → List ℕ → Option (List ℕ)
 joined None piece = None
-joined (Some text) piece = if nat_lt MAX_REPORT (length text + length piece) then None else Some (text ++ piece)
+joined (Some text) piece = if nat_lt 67108864 (length text + length piece) then None else Some (text ++ piece)
 
 -- an output with what these moments print
 abbrev pub told_run : Option (List ℕ) → List Moment → Option (List ℕ)
@@ -124,7 +123,7 @@ Stops first (Limit line limit) = first ≡ Some (line, fault_named limit)
 Stops first _ = ⊥
 
 abbrev pub ReportEnds : List Entry → List (ℕ × Event) → Ending → Type 0
-ReportEnds J events Report = (first_limit (run J events) J ≡ None) × (MAX_REPORT < length (report J events))
+ReportEnds J events Report = (first_limit (run J events) J ≡ None) × (67108864 < length (report J events))
 ReportEnds J events ending = Stops (first_limit (run J events) J) ending
 
 -- the same, where the output was joined piece by piece

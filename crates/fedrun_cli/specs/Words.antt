@@ -1,6 +1,5 @@
 -- The words of the command line.
-use Rattle.std.specs.Prelude.{◌≡◌, ℕ, List, [], ◌∷◌, Bool, false, ◌&&◌, not, if◌then◌else◌, Option, Some, None, nat_eq, slice_get, string_bytes, String, ◌==◌, length, codes}
-use Rattle.std.specs.declared.alloc.Global.{Global}
+use Rattle.std.specs.Prelude.{ℕ, List, [], ◌∷◌, Bool, false, ◌&&◌, not, if◌then◌else◌, Option, Some, None, ◌==◌, codes}
 use Rattle.std.specs.List.{list_any}
 use Rattle.fed_journal.specs.Names.{same_text}
 

@@ -2,13 +2,14 @@
 ghost use Rattle.std.specs.Prelude.{◌≡◌, ◌≤◌, [], length, vec_len, false, All, None, IfOk, IfErr, Ok, string_bytes};
 ghost use Rattle.fed_journal.specs.Events.{IsWritable};
 ghost use Rattle.fed_schedule.specs.Schedule.{Reading, reading, reading_of};
-ghost use Rattle.fedrun_cli.specs.Endings.{status_of, error_line, Took};
+ghost use Rattle.fed_outside.specs.Outside.{with_name};
+ghost use Rattle.fedrun_cli.specs.Endings.{status_of, error_line, SinkView};
 ghost use Rattle.fedrun_cli.specs.Completeness.{IsComplete};
 ghost use Rattle.fedrun_cli.specs.Ends.{Outside, EndsRun};
-ghost use Rattle.fedrun_cli.specs.Outcomes.{HasFile, LoadEnds, ReadEnds, Explains, IsKeptRun, output, limit_in};
+ghost use Rattle.fedrun_cli.specs.Outcomes.{ShelfView, HasRead, LoadEnds, ReadEnds, Explains, IsWhole, output};
 
 use crate::ending::{Ending, say, status_of};
-use crate::report::{MAX_REPORT, report};
+use crate::report::report;
 use fed_journal::page::Page;
 use fed_outside::{Loaded, Shelf, Sink};
 use fed_schedule::schedule::read;
@@ -31,9 +32,11 @@ pub struct BrokerArg {
 
 /// Loads the schedule's file.
 fn load<F: Shelf>(alloc: Global, schedule: &str, shelf: &mut F) -> Result<Vec<u8>, Ending>
-    ensures within { IfOk result (λ bytes. length bytes.items ≤ MAX_FILE) }
-    ensures content { IfOk result (λ bytes. HasFile (F.files shelf.old) schedule.now (λ content. content ≡ bytes.items)) }
+    ensures within { IfOk result (λ bytes. length bytes.items ≤ 67108864) }
+    ensures content { IfOk result (λ bytes. HasRead (F.files shelf.old) schedule.now (λ content. content ≡ bytes.items)) }
     ensures ending { IfErr result (LoadEnds (F.files shelf.old) schedule.now (F.faults shelf.old) (F.faults shelf.new)) }
+    ensures asked { F.asked shelf.new ≡ with_name (F.asked shelf.old) schedule.now }
+    ensures files { F.files shelf.new ≡ F.files shelf.old }
 {
     match shelf.load(alloc, schedule, MAX_FILE) {
         Loaded::Bytes(bytes) => Ok(bytes),
@@ -46,7 +49,7 @@ fn load<F: Shelf>(alloc: Global, schedule: &str, shelf: &mut F) -> Result<Vec<u8
 
 /// The script that the octets spell.
 fn script_of(alloc: Global, bytes: &[u8]) -> Result<Script, Ending>
-    requires { length bytes.now ≤ MAX_FILE }
+    requires { length bytes.now ≤ 67108864 }
     ensures script { IfOk result (λ script. reading bytes.now ≡ Ok (reading_of script)) }
     ensures writable { IfOk result (λ script. All (λ e. IsWritable e.1) script.events.items) }
     ensures ending { IfErr result (ReadEnds bytes.now) }
@@ -66,8 +69,8 @@ fn script_of(alloc: Global, bytes: &[u8]) -> Result<Script, Ending>
 
 /// The output of the run that the octets spell.
 fn output_of(alloc: Global, bytes: &[u8]) -> Result<Page, Ending>
-    requires { length bytes.now ≤ MAX_FILE }
-    ensures output { IfOk result (λ page. (r : Reading) × (reading bytes.now ≡ Ok r) × (page ≡ output r) × IsKeptRun r × (limit_in r ≡ None) × (length (output r) ≤ MAX_REPORT)) }
+    requires { length bytes.now ≤ 67108864 }
+    ensures output { IfOk result (λ page. (r : Reading) × (reading bytes.now ≡ Ok r) × (page ≡ output r) × IsWhole r) }
     ensures ending { IfErr result (ReadEnds bytes.now) }
 {
     let script = script_of(alloc, bytes)?;
@@ -88,7 +91,14 @@ fn run_schedule<F: Shelf, O: Sink>(
     shelf: &mut F,
     out: &mut O,
 ) -> Ending
-    ensures { Explains (F.files shelf.old) schedule.now (F.faults shelf.old) (F.faults shelf.new) (O.told out.old) (O.told out.new) (O.faults out.old) (O.faults out.new) result }
+    ensures explained { Explains schedule.now
+        (record { files = F.files shelf.old; asked = F.asked shelf.old; faults = F.faults shelf.old })
+        (record { files = F.files shelf.new; asked = F.asked shelf.new; faults = F.faults shelf.new })
+        (record { told = O.told out.old; puts = O.puts out.old; faults = O.faults out.old })
+        (record { told = O.told out.new; puts = O.puts out.new; faults = O.faults out.new })
+        result }
+    ensures asked { F.asked shelf.new ≡ with_name (F.asked shelf.old) schedule.now }
+    ensures files { F.files shelf.new ≡ F.files shelf.old }
 {
     let bytes = match load(alloc, schedule, shelf) {
         Ok(bytes) => bytes,
@@ -114,8 +124,16 @@ fn run_to_end<F: Shelf, O: Sink, E: Sink>(
     err: &mut E,
 ) -> u8
     ensures { EndsRun schedule.now
-        (record { files = F.files shelf.old; read_faults = F.faults shelf.old; out_told = O.told out.old; out_faults = O.faults out.old; err_told = E.told err.old; err_faults = E.faults err.old })
-        (record { files = F.files shelf.new; read_faults = F.faults shelf.new; out_told = O.told out.new; out_faults = O.faults out.new; err_told = E.told err.new; err_faults = E.faults err.new })
+        (record {
+          shelf = record { files = F.files shelf.old; asked = F.asked shelf.old; faults = F.faults shelf.old };
+          out = record { told = O.told out.old; puts = O.puts out.old; faults = O.faults out.old };
+          err = record { told = E.told err.old; puts = E.puts err.old; faults = E.faults err.old };
+        })
+        (record {
+          shelf = record { files = F.files shelf.new; asked = F.asked shelf.new; faults = F.faults shelf.new };
+          out = record { told = O.told out.new; puts = O.puts out.new; faults = O.faults out.new };
+          err = record { told = E.told err.new; puts = E.puts err.new; faults = E.faults err.new };
+        })
         result }
 {
     let ending = run_schedule(alloc, schedule, shelf, out);
@@ -139,12 +157,28 @@ pub fn run_command<F: Shelf, O: Sink, E: Sink>(
     requires no_journal { journal ≡ false }
     requires no_wire { wire ≡ false }
     ensures ends { EndsRun schedule.now
-        (record { files = F.files shelf.old; read_faults = F.faults shelf.old; out_told = O.told out.old; out_faults = O.faults out.old; err_told = E.told err.old; err_faults = E.faults err.old })
-        (record { files = F.files shelf.new; read_faults = F.faults shelf.new; out_told = O.told out.new; out_faults = O.faults out.new; err_told = E.told err.new; err_faults = E.faults err.new })
+        (record {
+          shelf = record { files = F.files shelf.old; asked = F.asked shelf.old; faults = F.faults shelf.old };
+          out = record { told = O.told out.old; puts = O.puts out.old; faults = O.faults out.old };
+          err = record { told = E.told err.old; puts = E.puts err.old; faults = E.faults err.old };
+        })
+        (record {
+          shelf = record { files = F.files shelf.new; asked = F.asked shelf.new; faults = F.faults shelf.new };
+          out = record { told = O.told out.new; puts = O.puts out.new; faults = O.faults out.new };
+          err = record { told = E.told err.new; puts = E.puts err.new; faults = E.faults err.new };
+        })
         result }
     ensures complete { IsComplete schedule.now
-        (record { files = F.files shelf.old; read_faults = F.faults shelf.old; out_told = O.told out.old; out_faults = O.faults out.old; err_told = E.told err.old; err_faults = E.faults err.old })
-        (record { files = F.files shelf.new; read_faults = F.faults shelf.new; out_told = O.told out.new; out_faults = O.faults out.new; err_told = E.told err.new; err_faults = E.faults err.new })
+        (record {
+          shelf = record { files = F.files shelf.old; asked = F.asked shelf.old; faults = F.faults shelf.old };
+          out = record { told = O.told out.old; puts = O.puts out.old; faults = O.faults out.old };
+          err = record { told = E.told err.old; puts = E.puts err.old; faults = E.faults err.old };
+        })
+        (record {
+          shelf = record { files = F.files shelf.new; asked = F.asked shelf.new; faults = F.faults shelf.new };
+          out = record { told = O.told out.new; puts = O.puts out.new; faults = O.faults out.new };
+          err = record { told = E.told err.new; puts = E.puts err.new; faults = E.faults err.new };
+        })
         result }
 {
     run_to_end(alloc, schedule, shelf, out, err)

@@ -1,6 +1,6 @@
 //! How a command ends.
 ghost use Rattle.std.specs.Prelude.{◌≡◌, ◌++◌, OnOk, IfOk, List, ℕ, false};
-ghost use Rattle.fedrun_cli.specs.Endings.{status_of, line_reason_word, word_line, fault_line, events_line, limit_word, limit_line, error_line, needs_memory, Stands, Took};
+ghost use Rattle.fedrun_cli.specs.Endings.{status_of, line_reason_word, word_line, fault_line, events_line, limit_word, limit_line, error_line, needs_memory, is_done, Stands, SinkView, PutOnce, Says};
 
 use fed_journal::page::Page;
 use fed_outside::Sink;
@@ -209,12 +209,27 @@ fn fixed_line(ending: Ending) -> &'static [u8]
     }
 }
 
-/// Puts the line of an ending. Where memory is wanting for it, the ending becomes want of memory,
+/// Whether the command is done, so that nothing is said.
+fn is_done(ending: Ending) -> bool
+    ensures { result ≡ is_done ending }
+{
+    match ending {
+        Ending::Done => true,
+        _ => false,
+    }
+}
+
+/// Puts the line of an ending, if it has one. Where memory is wanting for it, the ending becomes want of memory,
 /// whose line takes none.
 pub(crate) fn say<E: Sink>(alloc: Global, ending: Ending, file: &str, err: &mut E) -> Ending
     ensures stands { Stands ending result }
-    ensures told { Took (E.told err.old) (E.told err.new) (E.faults err.old) (E.faults err.new) (error_line result file.now) }
+    ensures says { Says result file.now
+        (record { told = E.told err.old; puts = E.puts err.old; faults = E.faults err.old })
+        (record { told = E.told err.new; puts = E.puts err.new; faults = E.faults err.new }) }
 {
+    if is_done(ending) {
+        return ending;
+    }
     if needs_memory(ending) {
         return match line_page(alloc, ending, file) {
             Ok(page) => put(ending, page.as_str().as_bytes(), err),
@@ -227,7 +242,10 @@ pub(crate) fn say<E: Sink>(alloc: Global, ending: Ending, file: &str, err: &mut 
 /// Puts the line of an ending, which stays.
 fn put<E: Sink>(ending: Ending, line: &[u8], err: &mut E) -> Ending
     ensures same { result ≡ ending }
-    ensures told { Took (E.told err.old) (E.told err.new) (E.faults err.old) (E.faults err.new) line.now }
+    ensures told { PutOnce
+        (record { told = E.told err.old; puts = E.puts err.old; faults = E.faults err.old })
+        (record { told = E.told err.new; puts = E.puts err.new; faults = E.faults err.new })
+        line.now }
 {
     let _is_out = err.put(line);
     ending

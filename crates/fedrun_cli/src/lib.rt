@@ -4,6 +4,4 @@
 pub mod command;
 pub mod ending;
 mod report;
-#[cfg(test)]
-mod tests;
 pub mod words;

@@ -284,7 +284,7 @@ pub(crate) fn report(
     requires few { length brokers.now ≤ 64 }
     requires writable { All (λ e. IsWritable e.1) events.now }
     ensures report { IfOk result (λ page. page ≡ report (begin brokers.now) events.now) }
-    ensures short { OnOk result (length (report (begin brokers.now) events.now) ≤ MAX_REPORT) }
+    ensures short { OnOk result (length (report (begin brokers.now) events.now) ≤ 67108864) }
     ensures within { OnOk result (first_limit (run (begin brokers.now) events.now) (begin brokers.now) ≡ None) }
     ensures ending { IfErr result (ReportEnds (begin brokers.now) events.now) }
 {

@@ -4,7 +4,8 @@ ghost use Rattle.std.specs.Option.{option_copied};
 ghost use Rattle.std.specs.List.{list_any};
 ghost use Rattle.fedrun_cli.specs.Completeness.{AskedIsComplete};
 ghost use Rattle.fedrun_cli.specs.Ends.{Outside, EndsAsked};
-ghost use Rattle.fedrun_cli.specs.Endings.{Took};
+ghost use Rattle.fedrun_cli.specs.Endings.{SinkView, PutOnce};
+ghost use Rattle.fedrun_cli.specs.Outcomes.{ShelfView};
 ghost use Rattle.fedrun_cli.specs.Words.{schedule_asked, is_schedule_word, begins_with_dash, is_equals_sign};
 
 use crate::command::run_command;
@@ -49,7 +50,10 @@ fn schedule_asked(words: &[String]) -> Option<&str>
 /// Puts the line of words that ask for no command, and answers its status. It takes no memory.
 fn end_usage<E: Sink>(err: &mut E) -> u8
     ensures status { result ≡ 2 }
-    ensures said { Took (E.told err.old) (E.told err.new) (E.faults err.old) (E.faults err.new) (codes "fedrun: usage\n") }
+    ensures said { PutOnce
+        (record { told = E.told err.old; puts = E.puts err.old; faults = E.faults err.old })
+        (record { told = E.told err.new; puts = E.puts err.new; faults = E.faults err.new })
+        (codes "fedrun: usage\n") }
 {
     let _is_out = err.put(b"fedrun: usage\n");
     2
@@ -66,12 +70,28 @@ pub fn fedrun<F: Shelf, O: Sink, E: Sink, D: Door>(
     door: &mut D,
 ) -> u8
     ensures ends { EndsAsked (schedule_asked (map string_bytes words.now))
-        (record { files = F.files shelf.old; read_faults = F.faults shelf.old; out_told = O.told out.old; out_faults = O.faults out.old; err_told = E.told err.old; err_faults = E.faults err.old })
-        (record { files = F.files shelf.new; read_faults = F.faults shelf.new; out_told = O.told out.new; out_faults = O.faults out.new; err_told = E.told err.new; err_faults = E.faults err.new })
+        (record {
+          shelf = record { files = F.files shelf.old; asked = F.asked shelf.old; faults = F.faults shelf.old };
+          out = record { told = O.told out.old; puts = O.puts out.old; faults = O.faults out.old };
+          err = record { told = E.told err.old; puts = E.puts err.old; faults = E.faults err.old };
+        })
+        (record {
+          shelf = record { files = F.files shelf.new; asked = F.asked shelf.new; faults = F.faults shelf.new };
+          out = record { told = O.told out.new; puts = O.puts out.new; faults = O.faults out.new };
+          err = record { told = E.told err.new; puts = E.puts err.new; faults = E.faults err.new };
+        })
         result }
     ensures complete { AskedIsComplete (schedule_asked (map string_bytes words.now))
-        (record { files = F.files shelf.old; read_faults = F.faults shelf.old; out_told = O.told out.old; out_faults = O.faults out.old; err_told = E.told err.old; err_faults = E.faults err.old })
-        (record { files = F.files shelf.new; read_faults = F.faults shelf.new; out_told = O.told out.new; out_faults = O.faults out.new; err_told = E.told err.new; err_faults = E.faults err.new })
+        (record {
+          shelf = record { files = F.files shelf.old; asked = F.asked shelf.old; faults = F.faults shelf.old };
+          out = record { told = O.told out.old; puts = O.puts out.old; faults = O.faults out.old };
+          err = record { told = E.told err.old; puts = E.puts err.old; faults = E.faults err.old };
+        })
+        (record {
+          shelf = record { files = F.files shelf.new; asked = F.asked shelf.new; faults = F.faults shelf.new };
+          out = record { told = O.told out.new; puts = O.puts out.new; faults = O.faults out.new };
+          err = record { told = E.told err.new; puts = E.puts err.new; faults = E.faults err.new };
+        })
         result }
     ensures door { door.new ≡ door.old }
 {
