@@ -11,6 +11,8 @@ mod stage;
 
 pub use fault::FrameFault;
 pub use frame::{FRAME_END, Frame, MAX_PAYLOAD, write_frame};
-pub use laws::{faults_are_one, frames_are_apart, frames_are_one, parts_are_short, parts_have_no_fault};
+pub use laws::{
+    faults_are_one, frames_are_apart, frames_are_one, parts_are_short, parts_have_no_fault,
+};
 pub use splitter::{PROTOCOL_HEADER, Splitter};
 pub use stage::Stage;

@@ -11,8 +11,8 @@ ghost use Rattle.broker_view.specs.Hosts.{recorded_at, with_host as hosts_with, 
 use crate::host::{Host, record};
 use crate::run::Run;
 use amqp_props::Text;
-use fed_journal::entry::Entry;
 use broker_store::Confirms;
+use fed_journal::entry::Entry;
 use mini_broker::Vhost;
 use std::alloc::{AllocError, Global};
 

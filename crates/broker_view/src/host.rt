@@ -9,9 +9,9 @@ ghost use Rattle.broker_view.specs.Hosts.{place_of, recorded_at, followed_at, en
 
 use crate::tell::tell;
 use amqp_props::Text;
+use broker_store::Confirms;
 use fed_journal::entry::{Entry, Publication};
 use fed_journal::place::Place;
-use broker_store::Confirms;
 use mini_broker::Vhost;
 use queue_core::Holder;
 use std::alloc::{AllocError, Global};

@@ -10,9 +10,9 @@ ghost use Rattle.broker_view.specs.Told.{lasting_from, must_wait, with_publicati
 
 use crate::host::{Host, is_at};
 use amqp_props::{QueueOptions, Text};
+use broker_store::Confirms;
 use fed_journal::entry::{Entry, Publication, Publisher};
 use fed_journal::message::is_persistent;
-use broker_store::Confirms;
 use mini_broker::Vhost;
 use queue_core::CopyNo;
 use std::alloc::{AllocError, Global};

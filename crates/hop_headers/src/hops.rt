@@ -9,9 +9,8 @@ ghost use Rattle.hop_headers.specs.Hops.{place_at as place_of_pairs, place_of as
 
 use crate::entry::{HopEntry, HopObject, PlaceName};
 use crate::names::FieldName;
-use field_tables::Text;
 use crate::values::{array_at, table_of, text_at};
-use field_tables::{FieldValue, Table};
+use field_tables::{FieldValue, Table, Text};
 use std::alloc::{AllocError, Global};
 
 /// The texts by which a table names a place.

@@ -2,9 +2,8 @@
 ghost use Rattle.std.specs.Prelude.{◌≡◌, true};
 ghost use Rattle.fed_journal.specs.Configuration.{is_place as is_place_of};
 
-use crate::client;
 use crate::line::{Line, print_maybe, print_names, print_numbers};
-use crate::link;
+use crate::{client, link};
 use amqp_props::Text;
 use anyhow::{Context, Result, bail};
 use broker_view::run::Run;
@@ -23,10 +22,7 @@ fn print_options(rt: &impl Print, run: &Run<'_>, place: &Place, queue: &Text) ->
     match run.queue_options(place, queue) {
         Some(options) => print!(rt;
             " durable {} exclusive {} {} auto-delete {}",
-            options.durable,
-            options.exclusive,
-            exclusive,
-            options.auto_delete
+            options.durable, options.exclusive, exclusive, options.auto_delete
         )?,
         None => print!(rt; " isn't there")?,
     }
@@ -47,7 +43,11 @@ fn print_queue(rt: &(impl Print + AllocGlobal), world: &World, line: &Line<'_>) 
     let journal = world.journal().entries();
     let counted = ready_count(alloc, journal, &place, &queue)?;
     print!(rt; " ready {ready} {counted}")?;
-    print_numbers(rt, "entered", entered(alloc, journal, &place, &queue)?.as_slice())
+    print_numbers(
+        rt,
+        "entered",
+        entered(alloc, journal, &place, &queue)?.as_slice(),
+    )
 }
 
 /// A place: whether the run has it, its queues, and how many bindings it has.
@@ -56,7 +56,11 @@ fn print_place(rt: &(impl Print + AllocGlobal), world: &World, line: &Line<'_>) 
     let place = line.place(alloc)?;
     let run = world.run().context("no brokers")?;
     let journal = world.journal().entries();
-    print!(rt; " broker {} place {}", run.is_broker(&place.broker), run.is_place(&place))?;
+    print!(rt;
+        " broker {} place {}",
+        run.is_broker(&place.broker),
+        run.is_place(&place)
+    )?;
     print_names(rt, "queues", queues_of(alloc, journal, &place)?.as_slice())?;
     let after = place_after(alloc, journal, &place)?;
     print!(rt; " bindings {}", after.bindings().len())?;

@@ -20,7 +20,12 @@ fn client_of(line: &Line<'_>) -> Result<Client> {
 }
 
 /// A client's consumer, by its tag.
-fn print_consumer(rt: &(impl Print + AllocGlobal), run: &Run<'_>, place: &Place, line: &Line<'_>) -> Result<()>
+fn print_consumer(
+    rt: &(impl Print + AllocGlobal),
+    run: &Run<'_>,
+    place: &Place,
+    line: &Line<'_>,
+) -> Result<()>
     requires { is_place_of run.now place.now ≡ true }
 {
     let tag = line.text(rt.alloc(), 2)?;
@@ -38,7 +43,12 @@ fn print_consumer(rt: &(impl Print + AllocGlobal), run: &Run<'_>, place: &Place,
 }
 
 /// What an exchange was declared as.
-fn print_exchange(rt: &(impl Print + AllocGlobal), run: &Run<'_>, place: &Place, line: &Line<'_>) -> Result<()>
+fn print_exchange(
+    rt: &(impl Print + AllocGlobal),
+    run: &Run<'_>,
+    place: &Place,
+    line: &Line<'_>,
+) -> Result<()>
     requires { is_place_of run.now place.now ≡ true }
 {
     let name = line.text(rt.alloc(), 1)?;
@@ -60,7 +70,12 @@ fn message(alloc: Global, line: &Line<'_>) -> Result<Message> {
 }
 
 /// The queues that a message reaches.
-fn print_routes(rt: &(impl Print + AllocGlobal), world: &World, place: &Place, line: &Line<'_>) -> Result<()> {
+fn print_routes(
+    rt: &(impl Print + AllocGlobal),
+    world: &World,
+    place: &Place,
+    line: &Line<'_>,
+) -> Result<()> {
     let alloc = rt.alloc();
     let run = world.run().context("no brokers")?;
     let within = world.journal().entries().len();

@@ -20,14 +20,30 @@ fn print_flight(
     session: u32,
 ) -> Result<()> {
     let alloc = rt.alloc();
-    print_numbers(rt, "held", flight_held(alloc, journal, link, session)?.as_slice())?;
-    print_numbers(rt, "took", flight_took(alloc, journal, link, session)?.as_slice())?;
-    print_numbers(rt, "sent", flight_sent(alloc, journal, link, session)?.as_slice())?;
+    print_numbers(
+        rt,
+        "held",
+        flight_held(alloc, journal, link, session)?.as_slice(),
+    )?;
+    print_numbers(
+        rt,
+        "took",
+        flight_took(alloc, journal, link, session)?.as_slice(),
+    )?;
+    print_numbers(
+        rt,
+        "sent",
+        flight_sent(alloc, journal, link, session)?.as_slice(),
+    )?;
     let published = flight_published(alloc, journal, link, session)?;
     print_numbers(rt, "published", published.as_slice())?;
     let confirmed = flight_confirmed(alloc, journal, link, session)?;
     print_numbers(rt, "confirmed", confirmed.as_slice())?;
-    print_numbers(rt, "noted", flight_noted(alloc, journal, link, session)?.as_slice())
+    print_numbers(
+        rt,
+        "noted",
+        flight_noted(alloc, journal, link, session)?.as_slice(),
+    )
 }
 
 fn print_end(rt: &impl Print, name: &str, place: &Option<Place>) -> Result<()> {
@@ -50,7 +66,10 @@ pub fn print(rt: &(impl Print + AllocGlobal), world: &World, line: &Line<'_>) ->
         return Ok(());
     };
     let set = is_shovel_set(journal, &spec.owner, &line.text(alloc, 1)?);
-    print!(rt; " set {set} starts {}", matches!(spec.start, StartState::Start))?;
+    print!(rt;
+        " set {set} starts {}",
+        matches!(spec.start, StartState::Start)
+    )?;
     print_end(rt, "source", &spec.source)?;
     print_end(rt, "target", &spec.target)?;
     let session = session(journal, &link);

@@ -4,8 +4,8 @@
 
 mod ask;
 mod client;
-mod link;
 mod line;
+mod link;
 mod pages;
 mod runs;
 

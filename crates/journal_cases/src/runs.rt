@@ -74,7 +74,10 @@ fn print_case(rt: &(impl Print + AllocGlobal), case: &str) -> Result<()> {
     let mut world = World::begin(alloc, script.brokers.as_slice())?;
     print_steps(rt, &script, &mut world)?;
     let numbers = world.journal().numbers();
-    println!(rt; "next publication {} copy {}", numbers.publication, numbers.copy)?;
+    println!(rt;
+        "next publication {} copy {}",
+        numbers.publication, numbers.copy
+    )?;
     for line in case.split('\n') {
         if line.starts_with('?') {
             ask::print(rt, &world, line)?;

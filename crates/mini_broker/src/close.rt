@@ -7,9 +7,9 @@ ghost use Rattle.route_core.specs.Routing.{without_object};
 ghost use Rattle.broker_store.specs.Queues.{queue_of, others, owned_names, StandInTurn};
 ghost use Rattle.mini_broker.specs.Close.{is_on, consumes_from, freed_from, disconnected, without_queue, closed};
 
-use broker_store::{Consumer, Queues, Sweep};
 use crate::vhost::Vhost;
 use amqp_props::Text;
+use broker_store::{Consumer, Queues, Sweep};
 use client_rules::Client;
 use route_core::{Router, Sort};
 use std::alloc::AllocError;

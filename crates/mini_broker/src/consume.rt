@@ -7,11 +7,11 @@ ghost use Rattle.broker_store.specs.Consumers.{is_consumer as is_this_consumer, 
 ghost use Rattle.mini_broker.specs.Bind.{unless};
 ghost use Rattle.mini_broker.specs.Consume.{refusal_at as refusal_of_queue, queue_refusal as refusal_by_queue, consumer_of, consume_refusal as refusal_to_consume, new_consumer as consumer_by, with_consumer, without_consumer};
 
-use broker_store::{Clients, Consumer, find_consumer, is_consumer};
 use crate::declare::is_locked;
 use crate::fault::ClientFault;
 use crate::vhost::Vhost;
 use amqp_props::Text;
+use broker_store::{Clients, Consumer, find_consumer, is_consumer};
 use client_rules::{Client, is_reserved};
 use queue_core::Holder;
 use std::alloc::AllocError;

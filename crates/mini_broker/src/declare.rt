@@ -12,10 +12,10 @@ ghost use Rattle.broker_store.specs.Queues.{queue_of, emptied};
 ghost use Rattle.broker_store.specs.Exchanges.{shape_of, declared_shape};
 ghost use Rattle.mini_broker.specs.Declare.{is_locked as is_queue_locked, declared_again as queue_again, declare_answer, with_queue, declared_exchange_again as exchange_again, declare_exchange_answer, with_exchange};
 
-use broker_store::{Exchanges, Mailbox, Queues, StandingQueue};
 use crate::fault::ClientFault;
 use crate::vhost::Vhost;
 use amqp_props::{QueueOptions, Text};
+use broker_store::{Exchanges, Mailbox, Queues, StandingQueue};
 use client_rules::{
     Client, ExchangeShape, is_anothers, is_refused_exchange, is_refused_queue, owner_of,
     same_options, same_shape,

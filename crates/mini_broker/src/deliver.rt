@@ -8,10 +8,10 @@ ghost use Rattle.mini_broker.specs.Consume.{consumer_of};
 ghost use Rattle.broker_store.specs.Consumers.{registered, client_number as number_of_client};
 ghost use Rattle.mini_broker.specs.Deliver.{offer_of, offered, held_count as count_of_held, is_busy as is_consumer_busy, deliver_to as delivered_to, deliver_answer, handed_over, with_delivered, get_answer, get_part as part_of_get, with_got};
 
-use broker_store::{Clients, Consumer, Queues, find_consumer};
 use crate::fault::ClientFault;
 use crate::vhost::Vhost;
 use amqp_props::{Message, Text};
+use broker_store::{Clients, Consumer, Queues, find_consumer};
 use client_rules::Client;
 use queue_core::{CopyNo, Holder};
 use std::alloc::{AllocError, Global};

@@ -8,10 +8,10 @@ ghost use Rattle.mini_broker.specs.Bind.{unless};
 ghost use Rattle.broker_store.specs.Queues.{AreAbove, SameNames, all_entered};
 ghost use Rattle.mini_broker.specs.Publish.{publish_refusal as refusal_to_publish, reached as names_reached, with_copies, first_of, done};
 
-use broker_store::Queues;
 use crate::fault::ClientFault;
 use crate::vhost::Vhost;
 use amqp_props::{Message, Text};
+use broker_store::Queues;
 use client_rules::is_reserved;
 use field_tables::Table;
 use queue_core::CopyNo;

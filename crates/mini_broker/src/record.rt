@@ -8,12 +8,12 @@ ghost use Rattle.broker_store.specs.Consumers.{registered};
 ghost use Rattle.mini_broker.specs.Deliver.{handed_over};
 ghost use Rattle.mini_broker.specs.Record.{with_entered, holder_as as holder_of_client, with_handed, with_taken, with_settled, with_released};
 
-use broker_store::{Clients, Queues, Sweep, find_consumer};
 use crate::deliver::hand_over;
 use crate::publish::enter_message;
 use crate::settle::sweep_all;
 use crate::vhost::Vhost;
 use amqp_props::{Message, Text};
+use broker_store::{Clients, Queues, Sweep, find_consumer};
 use client_rules::Client;
 use queue_core::{CopyNo, Holder};
 use route_core::{Binding, Router, Sort};

@@ -6,9 +6,9 @@ ghost use Rattle.broker_store.specs.Mail.{swept, purged};
 ghost use Rattle.broker_store.specs.Queues.{ready_count, changed, all_changed, with_mail, is_held_in, SameNames};
 ghost use Rattle.mini_broker.specs.Settle.{holds as client_holds, settled, requeued, purge_answer, with_purged, all_swept};
 
-use broker_store::{Queues, Sweep};
 use crate::fault::ClientFault;
 use crate::vhost::Vhost;
+use broker_store::{Queues, Sweep};
 use client_rules::Client;
 use queue_core::CopyNo;
 

@@ -9,9 +9,9 @@ ghost use Rattle.mini_broker.specs.Settle.{holds as client_holds};
 ghost use Rattle.broker_store.specs.Exchanges.{shape_of};
 ghost use Rattle.mini_broker.specs.Vhosts.{bare, consumer_count};
 
-use broker_store::{Clients, Consumer, Exchanges, Queues};
 use crate::deliver::held_count;
 use amqp_props::QueueOptions;
+use broker_store::{Clients, Consumer, Exchanges, Queues};
 use client_rules::{Client, ExchangeShape};
 use queue_core::{CopyNo, Holder, Row};
 use route_core::{Binding, Router};
