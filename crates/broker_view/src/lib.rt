@@ -5,5 +5,3 @@ pub mod brokers;
 pub mod host;
 pub mod run;
 pub mod tell;
-#[cfg(test)]
-mod tests;

@@ -9,6 +9,4 @@ pub mod link;
 pub mod message;
 pub mod page;
 pub mod place;
-#[cfg(test)]
-mod tests;
 pub mod text;

@@ -6,6 +6,4 @@ pub mod limits;
 pub mod reason;
 pub mod row;
 pub mod rows;
-#[cfg(test)]
-mod tests;
 pub mod world;

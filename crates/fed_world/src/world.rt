@@ -1,5 +1,5 @@
 //! The state of a run: its journal, and the brokers that follow it.
-ghost use Rattle.std.specs.Prelude.{◌≡◌, Some, None, IfErr, ◌+◌, ◌<◌, ◌≤◌, ◌++◌, ◌*◌, ◌^◌, ◌≢◌, Ok, Err, IfOk, OnOk, OnErr, All, IsTrue, length, vec_len};
+ghost use Rattle.std.specs.Prelude.{◌≡◌, Some, None, IfErr, IfSome, ◌+◌, ◌<◌, ◌≤◌, ◌++◌, ◌*◌, ◌^◌, ◌≢◌, Ok, Err, IfOk, OnOk, OnErr, All, IsTrue, length, vec_len};
 ghost use Rattle.broker_view.specs.Hosts.{AreViews};
 ghost use Rattle.broker_view.specs.Suits.{EachSuits};
 ghost use Rattle.fed_journal.specs.Copies.{IsFitting, publication_count, copy_count};
@@ -400,6 +400,16 @@ impl World {
                     Err(fault) => Err(fault),
                 }
             }
+        }
+    }
+
+    /// The run so far as the brokers hold it; None once they were given up for want of memory.
+    pub fn run(&self) -> Option<Run<'_>>
+        ensures { IfSome result (λ run. run ≡ self.now) }
+    {
+        match &self.brokers {
+            Some(brokers) => Some(brokers.run(self.journal.entries())),
+            None => None,
         }
     }
 

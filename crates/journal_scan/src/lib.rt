@@ -9,5 +9,3 @@ pub mod links;
 pub mod phases;
 pub mod routing;
 mod standing;
-#[cfg(test)]
-mod tests;
