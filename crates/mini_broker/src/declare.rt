@@ -9,6 +9,7 @@ ghost use Rattle.mini_broker.specs.Answers.{IsAnswer};
 ghost use Rattle.mini_broker.specs.Mail.{empty};
 ghost use Rattle.mini_broker.specs.Queues.{queue_of, emptied};
 ghost use Rattle.mini_broker.specs.Exchanges.{shape_of, declared_shape};
+ghost use Rattle.client_rules.specs.Owners.{owner_of as owner_by};
 ghost use Rattle.mini_broker.specs.Declare.{is_locked as is_queue_locked, declared_again as queue_again, declare_answer, with_queue, declared_exchange_again as exchange_again, declare_exchange_answer, with_exchange};
 
 use crate::exchanges::Exchanges;
