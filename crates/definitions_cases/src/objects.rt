@@ -2,7 +2,7 @@
 use crate::parameters::tell_parameter;
 use anyhow::Result;
 use fed_defs::{BindingDef, PolicyDef, SharedPattern, VhostConfig};
-use field_tables::{Text, write_table};
+use field_tables::Text;
 
 /// All that a virtual host holds, a line each.
 pub fn tell_vhost(rt: &HostRuntime, vhost: &VhostConfig) -> Result<()> {
@@ -42,22 +42,22 @@ fn tell_settings(rt: &HostRuntime, vhost: &VhostConfig) -> Result<()> {
     Ok(())
 }
 
-/// A binding, its arguments as AMQP spells their table.
+/// A binding and its arguments.
 fn tell_binding(rt: &HostRuntime, binding: &BindingDef) -> Result<()> {
-    let mut octets = Vec::new(rt.alloc());
-    write_table(binding.args.as_table(), &mut octets)?;
-    let args = hex::encode(rt.alloc(), octets.as_slice())?;
     let kind = if binding.to_exchange {
         "exchange"
     } else {
         "queue"
     };
     println!(rt;
-        "  binding {} {kind} {} key {:?} {args}",
+        "  binding {} {kind} {} key {:?}",
         binding.source.as_str(),
         binding.dest.as_str(),
         binding.key.as_str()
     )?;
+    for (name, value) in &binding.args.as_table().pairs {
+        println!(rt; "    argument {name} {value:?}")?;
+    }
     Ok(())
 }
 

@@ -1,6 +1,6 @@
 //! What upstreams, sets of upstreams and shovels say.
 use crate::objects::text_or_none;
-use amqp_props::{SourceAt, TargetAt, write_header};
+use amqp_props::{Properties, SourceAt, TargetAt};
 use anyhow::Result;
 use fed_defs::{Overrides, ParameterDef, ParameterValue, ShovelDef, UpstreamDef, Uris};
 
@@ -95,18 +95,28 @@ fn tell_target(rt: &HostRuntime, target: &TargetAt) -> Result<()> {
     Ok(())
 }
 
-/// A shovel; its properties are told as AMQP spells a content header with them.
+/// The properties that a shovel sets.
+fn tell_properties(rt: &HostRuntime, props: &Properties) -> Result<()> {
+    println!(rt;
+        "    content-type {} delivery-mode {:?} priority {:?} timestamp {:?} app-id {}",
+        text_or_none(&props.content_type),
+        props.delivery_mode,
+        props.priority,
+        props.timestamp,
+        text_or_none(&props.app_id)
+    )?;
+    Ok(())
+}
+
+/// A shovel.
 pub fn tell_shovel(rt: &HostRuntime, shovel: &ShovelDef) -> Result<()> {
     tell_uris(rt, "src-uri", &shovel.sources)?;
     tell_uris(rt, "dest-uri", &shovel.targets)?;
     tell_source(rt, &shovel.source_at)?;
     tell_target(rt, &shovel.target_at)?;
-    let mut octets = Vec::new(rt.alloc());
-    write_header(0, &shovel.props, &mut octets)?;
-    let header = hex::encode(rt.alloc(), octets.as_slice())?;
     println!(rt;
-        "    ack-mode {:?} src-prefetch-count {} reconnect-delay {} src-delete-after {:?} add-forward-headers {} header {header}",
+        "    ack-mode {:?} src-prefetch-count {} reconnect-delay {} src-delete-after {:?} add-forward-headers {}",
         shovel.mode, shovel.prefetch, shovel.delay, shovel.delete_after, shovel.stamp
     )?;
-    Ok(())
+    tell_properties(rt, &shovel.props)
 }
