@@ -14,14 +14,13 @@ pub struct Line<'a> {
 impl<'a> Line<'a> {
     /// The words of a line, with a bar between them.
     pub fn read(alloc: Global, text: &'a str) -> Result<Line<'a>, AllocError> {
+        let (call, rest) = match text.split_once('|') {
+            Some((call, rest)) => (call, rest),
+            None => (text, ""),
+        };
         let mut words = Vec::new(alloc);
-        let mut call = "";
-        for word in text.split('|') {
-            if call.is_empty() {
-                call = word;
-            } else {
-                words.push(word)?;
-            }
+        for word in rest.split('|') {
+            words.push(word)?;
         }
         Ok(Line { call, words })
     }
