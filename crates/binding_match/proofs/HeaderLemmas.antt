@@ -1,10 +1,10 @@
 -- The tests of a headers binding, and what they decide.
 use Rattle.std.proofs.Common.{◌≡◌, inl, inr, Bool, true, false, true≢false, ◌||◌, List, [], ◌∷◌, Option, Some, None, String, string_bytes, Global, refl, sym, ap, ◌∙◌}
 use Rattle.field_tables.specs.Fields.{Field, void, Pairs, no_pairs, pair, first_of}
-use Rattle.field_tables.specs.View.{field_view}
+use Rattle.field_tables.specs.View.{pairs_of, field_view, pairs_view}
 use Rattle.field_tables.specs.declared.value.FieldValue.{FieldValue}
 use Rattle.binding_match.proofs.Bools.{either, or_true, none_missed, missed_none, some_hit, hit, hit_later, chosen, chosen_back}
-use Rattle.binding_match.proofs.ValueLemmas.{pairs, value_yes, value_back}
+use Rattle.binding_match.proofs.ValueLemmas.{value_yes, value_back}
 use Rattle.binding_match.specs.Values.{same_value}
 use Rattle.binding_match.specs.Headers.{is_compared, asks_any, is_void, Agrees, present, same, AllAgree, SomeAgrees, HeadersMatch, agrees, fits, misses, all_agree, some_agrees, headers_agree}
 
@@ -56,29 +56,29 @@ headers_back args headers h = chosen_back (asks_any args) (some_agrees args head
 -- ---- the arguments one after the other, as a loop goes over them
 
 pub all_go : (ps qs : List (String Global × FieldValue)) (p : String Global × FieldValue) (headers : Pairs) → ps ≡ p ∷ qs → misses (string_bytes p.0) (field_view p.1) headers ≡ false
-    → all_agree (pairs qs) headers ≡ all_agree (pairs ps) headers
+    → all_agree (pairs_of (pairs_view qs)) headers ≡ all_agree (pairs_of (pairs_view ps)) headers
 unfolding all_agree
 all_go ps qs p headers e h = rw (e, h) refl
 
 pub all_stop : (ps qs : List (String Global × FieldValue)) (p : String Global × FieldValue) (headers : Pairs) → ps ≡ p ∷ qs → misses (string_bytes p.0) (field_view p.1) headers ≡ true
-    → false ≡ all_agree (pairs ps) headers
+    → false ≡ all_agree (pairs_of (pairs_view ps)) headers
 unfolding all_agree
 all_stop ps qs p headers e h = rw (e, h) refl
 
-pub all_end : (ps : List (String Global × FieldValue)) (headers : Pairs) → ps ≡ [] → true ≡ all_agree (pairs ps) headers
+pub all_end : (ps : List (String Global × FieldValue)) (headers : Pairs) → ps ≡ [] → true ≡ all_agree (pairs_of (pairs_view ps)) headers
 unfolding all_agree
 all_end ps headers e = rw e refl
 
 pub some_go : (ps qs : List (String Global × FieldValue)) (p : String Global × FieldValue) (headers : Pairs) → ps ≡ p ∷ qs → fits (string_bytes p.0) (field_view p.1) headers ≡ false
-    → some_agrees (pairs qs) headers ≡ some_agrees (pairs ps) headers
+    → some_agrees (pairs_of (pairs_view qs)) headers ≡ some_agrees (pairs_of (pairs_view ps)) headers
 unfolding some_agrees
 some_go ps qs p headers e h = rw (e, h) refl
 
 pub some_stop : (ps qs : List (String Global × FieldValue)) (p : String Global × FieldValue) (headers : Pairs) → ps ≡ p ∷ qs → fits (string_bytes p.0) (field_view p.1) headers ≡ true
-    → true ≡ some_agrees (pairs ps) headers
+    → true ≡ some_agrees (pairs_of (pairs_view ps)) headers
 unfolding some_agrees
 some_stop ps qs p headers e h = rw (e, h) refl
 
-pub some_end : (ps : List (String Global × FieldValue)) (headers : Pairs) → ps ≡ [] → false ≡ some_agrees (pairs ps) headers
+pub some_end : (ps : List (String Global × FieldValue)) (headers : Pairs) → ps ≡ [] → false ≡ some_agrees (pairs_of (pairs_view ps)) headers
 unfolding some_agrees
 some_end ps headers e = rw e refl

@@ -1,6 +1,5 @@
 pub mod Bools
 pub mod HeaderLemmas
-pub mod Lists
 pub mod TopicLemmas
 pub mod ValueLemmas
 pub mod WalkLemmas

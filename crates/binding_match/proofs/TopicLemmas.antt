@@ -160,9 +160,6 @@ pub record Along (P K ps ws : List (List ℕ)) : Type 0 where
   pub ahead : some_end (covers P) K ≡ true → some_end (covers ps) ws ≡ true
   pub shorter : length ps ≤ length P
 
-pub along_start : (P K : List (List ℕ)) → Along P K P K
-along_start P K = record { same = refl; ahead = λ h. h; shorter = omega arith }
-
 pub along_word : (P K ps ws : List (List ℕ)) (part : List ℕ) (parts : List (List ℕ)) (w : List ℕ) (rest : List (List ℕ)) → ps ≡ part ∷ parts → ws ≡ w ∷ rest
     → bytes_eq part hash ≡ false → (bytes_eq part star || bytes_eq part w) ≡ true → Along P K ps ws → Along P K parts rest
 along_word P K ps ws part parts w rest eq-parts eq-words n fits a = record {

@@ -1,4 +1,5 @@
 pub mod Apart
+pub mod LengthLemmas
 pub mod Lists
 pub mod Loops
 pub mod Octets

@@ -1,9 +1,9 @@
 -- Four octets written over those at a place.
-use Rattle.std.proofs.Common.{get_or, append_assoc, ◌<◌, ◌^◌, ◌≡◌, ℕ, zero, suc, ◌+◌, ◌≤◌, List, [], ◌∷◌, ◌++◌, length, take, drop, refl, sym, ap, ◌∙◌, arith}
+use Rattle.std.proofs.Common.{get_or, append_assoc, ◌≡◌, ℕ, zero, suc, ◌+◌, ◌≤◌, List, [], ◌∷◌, ◌++◌, length, take, drop, refl, sym, ap, ◌∙◌, arith}
 use Rattle.std.specs.Int.{w32, to_be_bytes}
 use Rattle.std.proofs.Math.ListN.{set}
 use Rattle.std.proofs.lemmas.List.{take_at, drop_at, length-append, append-nil}
-use Rattle.field_tables.specs.Tables.{counted_spelling, IsCounted, IsName, name_spelling, value_spelling, fields_spelling, pairs_spelling, HasSpelling, HaveSpelling, ArePairs}
+use Rattle.field_tables.specs.Tables.{counted_spelling, IsName, fields_spelling, pairs_spelling, HasSpelling, ArePairs}
 use Rattle.field_tables.specs.View.{fields_of, pairs_of, field_view, fields_view, pairs_view}
 use Rattle.field_tables.specs.declared.value.FieldValue.{FieldValue}
 use Rattle.std.proofs.Common.{String, Global, string_bytes, subst}
@@ -39,30 +39,10 @@ filled old content out new start at is made =
     let front : take start out ≡ old = rw is (take_at old (free ++ content) start (sym at)) in
     made ∙ rw (front, behind old content out start at is) refl
 
-pub free_there : (old content out : List ℕ) (start : ℕ) → start ≡ length old → out ≡ old ++ (free ++ content) → start + 4 ≤ length out
-free_there old content out start at is = omega (arith, ap length is, length-append old (free ++ content), at)
-
-pub free_counts : (old content out : List ℕ) (start : ℕ) → start ≡ length old → out ≡ old ++ (free ++ content) → IsCounted content → length (drop (start + 4) out) < 2 ^ 32
-free_counts old content out start at is counted = rw (behind old content out start at is) counted
-
 -- ---- values and pairs, one after the other
-
-pub one_value : (out next total : List ℕ) (vs ws : List FieldValue) (v : FieldValue) → vs ≡ v ∷ ws → next ≡ out ++ value_spelling (field_view v) → out ++ fields_spelling (fields_of (fields_view vs)) ≡ total
-    → next ++ fields_spelling (fields_of (fields_view ws)) ≡ total
-one_value out next total vs ws v is made so_far = rw made (append_assoc out (value_spelling (field_view v)) (fields_spelling (fields_of (fields_view ws))) ∙ ap (λ (ys : List FieldValue). out ++ fields_spelling (fields_of (fields_view ys))) (sym is) ∙ so_far)
-
-pub first_value : (vs ws : List FieldValue) (v : FieldValue) → vs ≡ v ∷ ws → HaveSpelling (fields_of (fields_view vs)) → HasSpelling (field_view v) × HaveSpelling (fields_of (fields_view ws))
-first_value vs ws v is h = subst (λ (ys : List FieldValue). HaveSpelling (fields_of (fields_view ys))) is h
 
 pub no_value : (out total : List ℕ) (vs : List FieldValue) → vs ≡ [] → out ++ fields_spelling (fields_of (fields_view vs)) ≡ total → out ≡ total
 no_value out total vs none so_far = sym (append-nil out) ∙ ap (λ (ys : List FieldValue). out ++ fields_spelling (fields_of (fields_view ys))) (sym none) ∙ so_far
-
-pub one_pair : (out named next total : List ℕ) (ps qs : List (String Global × FieldValue)) (name : String Global) (v : FieldValue) → ps ≡ (name, v) ∷ qs → named ≡ out ++ name_spelling (string_bytes name) → next ≡ named ++ value_spelling (field_view v)
-    → out ++ pairs_spelling (pairs_of (pairs_view ps)) ≡ total → next ++ pairs_spelling (pairs_of (pairs_view qs)) ≡ total
-one_pair out named next total ps qs name v is first made so_far =
-    rw (made, first) (append_assoc (out ++ name_spelling (string_bytes name)) (value_spelling (field_view v)) (pairs_spelling (pairs_of (pairs_view qs)))
-    ∙ append_assoc out (name_spelling (string_bytes name)) (value_spelling (field_view v) ++ pairs_spelling (pairs_of (pairs_view qs)))
-    ∙ ap (λ (ys : List (String Global × FieldValue)). out ++ pairs_spelling (pairs_of (pairs_view ys))) (sym is) ∙ so_far)
 
 pub first_pair : (ps qs : List (String Global × FieldValue)) (name : String Global) (v : FieldValue) → ps ≡ (name, v) ∷ qs → ArePairs (pairs_of (pairs_view ps)) → IsName (string_bytes name) × HasSpelling (field_view v) × ArePairs (pairs_of (pairs_view qs))
 first_pair ps qs name v is h = subst (λ (ys : List (String Global × FieldValue)). ArePairs (pairs_of (pairs_view ys))) is h

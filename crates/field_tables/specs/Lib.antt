@@ -1,4 +1,5 @@
 pub mod Fields
+pub mod Lengths
 pub mod Reading
 pub mod Same
 pub mod SameLaws

@@ -14,7 +14,7 @@ mod writing;
 
 pub use fault::TableFault;
 pub use laws::{tables_are_apart, values_are_apart};
-pub use length::table_len;
+pub use length::{is_within, table_len};
 pub use reading::read_table;
 pub use text::Text;
 pub use value::{FieldValue, Table};

@@ -2,7 +2,6 @@ pub mod GoingOn
 pub mod HopLemmas
 pub mod Loops
 pub mod PropagationLemmas
-pub mod RoomLemmas
 pub mod Spelled
 pub mod StampLemmas
 pub mod TableLemmas

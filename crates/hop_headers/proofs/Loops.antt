@@ -1,14 +1,10 @@
 -- The values of an array one after the other, as a loop goes over them.
-use Rattle.std.proofs.Common.{◌≡◌, ℕ, ◌+◌, ◌<◌, Bool, true, false, List, [], ◌∷◌, length, ◌++◌, drop, get_or, Option, Some, None, refl, ap, sym, ◌∙◌, append_assoc, append-nil}
-use Rattle.std.proofs.lemmas.List.{drop_more}
+use Rattle.std.proofs.Common.{◌≡◌, Bool, true, false, List, [], ◌∷◌, ◌++◌, Option, Some, None, refl, append_assoc, append-nil}
 use Rattle.std.specs.List.{list_all, list_any, filter_map, cons_option}
 use Rattle.std.specs.Prelude.{option_to_list}
 use Rattle.field_tables.specs.Fields.{Field}
 use Rattle.field_tables.specs.View.{field_view, fields_view}
 use Rattle.field_tables.specs.declared.value.FieldValue.{FieldValue}
-
-pub from_item : {X : Type 0} (xs : List X) (i : ℕ) (x : X) → i < length xs → x ≡ get_or xs i x → drop i xs ≡ x ∷ drop (i + 1) xs
-from_item {X} xs i x lt e = drop_more xs i x lt ∙ ap (λ (y : X). y ∷ drop (i + 1) xs) (sym e)
 
 pub all_go : (p : Field → Bool) (vs ws : List FieldValue) (v : FieldValue) → vs ≡ v ∷ ws → p (field_view v) ≡ true → list_all p (fields_view ws) ≡ list_all p (fields_view vs)
 all_go p vs ws v e h = rw (e, h) refl

@@ -16,8 +16,8 @@ use Rattle.hop_headers.specs.Names.{received_from_name, bound_from_name, cluster
 use Rattle.hop_headers.specs.Hops.{values_of, named_values, array_of, array_at, names_place, if_hops, hops, kept_hops, hop_entries}
 use Rattle.hop_headers.specs.Stamps.{set_first, with_header, with_hops, exchange_hop, stamped_exchange, queue_hop, is_own_hop, visits_before, next_visits, stamped_queue}
 use Rattle.hop_headers.specs.Propagation.{is_chain, if_chain, chain, kept_chain, BoundEntry, bound_entries, one_less, first_hops, hops_left, new_hops, bound_entry, is_other, bound_on, is_short, propagated}
-use Rattle.hop_headers.specs.Room.{value_length, fields_length, pairs_length}
-use Rattle.hop_headers.proofs.RoomLemmas.{text_length, table_length, array_length, fields_more, pairs_more}
+use Rattle.field_tables.specs.Lengths.{value_length, fields_length, pairs_length}
+use Rattle.field_tables.proofs.LengthLemmas.{text_value_length, table_value_length, array_value_length, fields_more, pairs_more}
 use Rattle.hop_headers.proofs.TableLemmas.{pairs_of-named_values}
 use Rattle.hop_headers.proofs.GoingOn.{went, hops_are, short_length}
 
@@ -176,10 +176,10 @@ named_spelled key x y z ps is rest few =
     let l0 : pairs_length p0 ≡ (1 + length cluster_name + value_length (long_string x)) + pairs_length p1 = pairs_more cluster_name (long_string x) p1 in
     let l1 : pairs_length p1 ≡ (1 + length vhost_name + value_length (long_string y)) + pairs_length p2 = pairs_more vhost_name (long_string y) p2 in
     let l2 : pairs_length p2 ≡ (1 + length key + value_length (long_string z)) + pairs_length ps = pairs_more key (long_string z) ps in
-    let t : value_length (table p0) ≡ 5 + pairs_length p0 = table_length p0 in
-    let lx : value_length (long_string x) ≡ 5 + length x = text_length x in
-    let ly : value_length (long_string y) ≡ 5 + length y = text_length y in
-    let lz : value_length (long_string z) ≡ 5 + length z = text_length z in
+    let t : value_length (table p0) ≡ 5 + pairs_length p0 = table_value_length p0 in
+    let lx : value_length (long_string x) ≡ 5 + length x = text_value_length x in
+    let ly : value_length (long_string y) ≡ 5 + length y = text_value_length y in
+    let lz : value_length (long_string z) ≡ 5 + length z = text_value_length z in
     (counted_in p0 (omega arith), (cluster_is, omega arith, (vhost_is, omega arith, (is, omega arith, rest))))
 
 pub entry_spelled : (downstream : PlaceName) (exchange : List ℕ) (hops : ℕ) → hops < 2 ^ 31 → Counts (value_length (table (bound_entry downstream exchange hops))) → HasSpelling (table (bound_entry downstream exchange hops))
@@ -214,7 +214,7 @@ queue_depth place q r n = omega arith
 array_spelled : (entry : Field) (kept : List Field) → (Counts (value_length entry) → HasSpelling entry) → Brings kept → Counts (value_length (array (fields_of (entry ∷ kept)))) → HasSpelling (array (fields_of (entry ∷ kept)))
 array_spelled entry kept spelled brings few =
     let all : Fields = fields_of (entry ∷ kept) in
-    let values : Counts (fields_length all) = omega (arith, few, array_length all) in
+    let values : Counts (fields_length all) = omega (arith, few, array_value_length all) in
     let one : Counts (value_length entry) = omega (arith, values, fields_more entry (fields_of kept)) in
     (counted_values all values, (spelled one, brings.spelled))
 

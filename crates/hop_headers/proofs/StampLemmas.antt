@@ -17,7 +17,7 @@ use Rattle.hop_headers.specs.Hops.{array_at, text_at, place_at, object_at, names
 use Rattle.hop_headers.specs.Stamps.{with_hops, exchange_hop, stamped_exchange, queue_hop, is_queue, is_own, is_own_hop, visits_before, next_visits, stamped_queue}
 use Rattle.hop_headers.specs.Laws.{AreNames, exchange_entry, queue_entry, KeepsHeaders}
 use Rattle.hop_headers.proofs.Views.{values_of-fields_of}
-use Rattle.hop_headers.proofs.TableLemmas.{first_with, other_with}
+use Rattle.hop_headers.proofs.TableLemmas.{first_with, other_with, order_with}
 use Rattle.hop_headers.proofs.HopLemmas.{both, entry_place, kept_named, same_yes, same_self, bytes_self}
 
 -- ---- the entries that links write
@@ -98,11 +98,17 @@ stamps_queue headers place queue redelivered names =
 
 pub exchange_keeps : (headers : Pairs) (place : PlaceName) (exchange : List ℕ) (redelivered : Bool) → KeepsHeaders headers (stamped_exchange headers place exchange redelivered)
 unfolding stamped_exchange
-exchange_keeps headers place exchange redelivered = record { others = λ name other. other_with received_from_name name _ headers other }
+exchange_keeps headers place exchange redelivered = record {
+  others = λ name other. other_with received_from_name name _ headers other;
+  order = order_with received_from_name _ headers;
+}
 
 pub queue_keeps : (headers : Pairs) (place : PlaceName) (queue : List ℕ) (redelivered : Bool) → KeepsHeaders headers (stamped_queue headers place queue redelivered)
 unfolding stamped_queue
-queue_keeps headers place queue redelivered = record { others = λ name other. other_with received_from_name name _ headers other }
+queue_keeps headers place queue redelivered = record {
+  others = λ name other. other_with received_from_name name _ headers other;
+  order = order_with received_from_name _ headers;
+}
 
 -- ---- an entry of its own
 

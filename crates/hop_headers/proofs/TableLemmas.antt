@@ -9,6 +9,7 @@ use Rattle.hop_headers.specs.Hops.{named_values}
 use Rattle.hop_headers.specs.Stamps.{set_first, with_header}
 use Rattle.hop_headers.specs.Propagation.{is_other}
 use Rattle.hop_headers.proofs.HopLemmas.{bytes_self}
+use Rattle.hop_headers.proofs.Views.{listed}
 
 -- different names don't pass the test
 pub apart : (a b : List ℕ) (t : Bool) → bytes_eq a b ≡ t → a ≢ b → t ≡ false
@@ -47,6 +48,21 @@ first_with name v headers = first_set name v (named_values headers)
 pub other_with : (name key : List ℕ) (v : Field) (headers : Pairs) → key ≢ name → first_of key (with_header name v headers) ≡ first_of key headers
 unfolding with_header
 other_with name key v headers other = other_set name key v (named_values headers) other ∙ ap (first_of key) (pairs_of-named_values headers)
+
+-- the pairs of other names stay, in their order
+order_step : (name : List ℕ) (v : Field) (p : List ℕ × Field) (ps : List (List ℕ × Field)) (t : Bool) → bytes_eq p.0 name ≡ t
+    → filter (is_other name) (set_first name v ps) ≡ filter (is_other name) ps
+    → filter (is_other name) (cond t ((name, v) ∷ ps) (p ∷ set_first name v ps)) ≡ filter (is_other name) (p ∷ ps)
+order_step name v p ps true e h = rw (bytes_self name, e) refl
+order_step name v p ps false e h = rw (e, h) refl
+
+pub order_set : (name : List ℕ) (v : Field) (ps : List (List ℕ × Field)) → filter (is_other name) (set_first name v ps) ≡ filter (is_other name) ps
+order_set name v [] = rw (bytes_self name) refl
+order_set name v (p ∷ ps) = order_step name v p ps (bytes_eq p.0 name) refl (order_set name v ps)
+
+pub order_with : (name : List ℕ) (v : Field) (headers : Pairs) → filter (is_other name) (named_values (with_header name v headers)) ≡ filter (is_other name) (named_values headers)
+unfolding with_header
+order_with name v headers = ap (filter (is_other name)) (listed (set_first name v (named_values headers))) ∙ order_set name v (named_values headers)
 
 -- a name put last, where it was taken out before
 last_step : (name : List ℕ) (p : List ℕ × Field) (ps qs : List (List ℕ × Field)) (t : Bool) (o : Option Field) → bytes_eq p.0 name ≡ t

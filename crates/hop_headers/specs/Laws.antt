@@ -6,10 +6,10 @@ use Rattle.hop_headers.specs.declared.entry.PlaceName.{PlaceName}
 use Rattle.hop_headers.specs.declared.entry.HopEntry.{HopEntry}
 use Rattle.hop_headers.specs.declared.entry.HopObject.TheVariants.{Exchange, Queue}
 use Rattle.hop_headers.specs.Names.{received_from_name, bound_from_name}
-use Rattle.hop_headers.specs.Hops.{received_from, hop_entries}
+use Rattle.hop_headers.specs.Hops.{named_values, received_from, hop_entries}
 use Rattle.hop_headers.specs.Gate.{GatePasses, gate_passes}
 use Rattle.hop_headers.specs.Stamps.{stamped_exchange, stamped_queue, is_own, visits_before, next_visits}
-use Rattle.hop_headers.specs.Propagation.{BoundEntry, bound_from, propagated, max_arguments}
+use Rattle.hop_headers.specs.Propagation.{BoundEntry, bound_from, is_other, propagated, max_arguments}
 
 -- The texts by which an entry names a place and an exchange or queue: UTF-8, as the names of the program are.
 pub record AreNames (place : PlaceName) (name : List ℕ) : Type 0 where
@@ -45,9 +45,10 @@ StampsQueue = (headers : Pairs) (place : PlaceName) (queue : List ℕ) (redelive
     ≡ Some (queue_entry place queue redelivered (next_visits (visits_before place queue (hop_entries headers)))
     ∷ filter (λ e. not (is_own place queue e)) (hop_entries headers))
 
--- A stamp leaves the other headers.
+-- A stamp leaves the other headers: each name has the value that it had, and all of them stand as before, in their order.
 pub record KeepsHeaders (headers stamped : Pairs) : Type 0 where
   pub others : (name : List ℕ) → name ≢ received_from_name → first_of name stamped ≡ first_of name headers
+  pub order : filter (is_other received_from_name) (named_values stamped) ≡ filter (is_other received_from_name) (named_values headers)
 
 abbrev pub StampsKeepHeaders : Type 0
 StampsKeepHeaders = (headers : Pairs) (place : PlaceName) (name : List ℕ) (redelivered : Bool)

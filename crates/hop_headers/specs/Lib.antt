@@ -3,5 +3,4 @@ pub mod Hops
 pub mod Laws
 pub mod Names
 pub mod Propagation
-pub mod Room
 pub mod Stamps

@@ -1,11 +1,11 @@
 -- How a binding of the downstream exchange becomes one of the upstream exchange (RabbitMQ's "Federated Exchanges": bindings
 -- are replicated to the upstream, and go no further than max-hops; `x-bound-from` and its fields are this project's own).
-use Rattle.std.specs.Prelude.{ℕ, ℤ, pos, negsuc, ◌-◌, min, nat_le, Bool, false, not, List, [], ◌∷◌, ◌++◌, length, filter, Option, Some, None, option_map, option_and_then, is_some, unwrap_or, if◌then◌else◌}
+use Rattle.std.specs.Prelude.{ℕ, ℤ, pos, negsuc, ◌-◌, min, nat_le, Bool, false, not, List, [], ◌∷◌, ◌++◌, filter, Option, Some, None, option_map, option_and_then, is_some, unwrap_or, if◌then◌else◌}
 use Rattle.std.specs.List.{list_any, list_all, filter_map}
 use Rattle.std.specs.Str.{bytes_eq}
 use Rattle.field_tables.specs.Fields.{Field, signed_long, array, table, Pairs, first_of}
 use Rattle.field_tables.specs.View.{fields_of, pairs_of}
-use Rattle.field_tables.specs.Tables.{table_spelling}
+use Rattle.field_tables.specs.Lengths.{is_within}
 use Rattle.hop_headers.specs.declared.entry.PlaceName.{PlaceName}
 use Rattle.hop_headers.specs.Names.{bound_from_name, exchange_name, hops_name}
 use Rattle.hop_headers.specs.Hops.{named_values, text_at, array_at, table_of, place_at, same_place}
@@ -104,7 +104,7 @@ abbrev pub max_arguments : ℕ
 max_arguments = 98304
 
 unfoldable pub is_short : Pairs → Bool
-is_short args = nat_le (length (table_spelling args)) max_arguments
+is_short args = is_within args max_arguments
 
 abbrev pub if_short : Pairs → Option Pairs
 if_short args = if is_short args then Some args else None

@@ -8,7 +8,6 @@ mod laws;
 mod names;
 mod pairs;
 mod propagation;
-mod room;
 mod stamps;
 mod values;
 

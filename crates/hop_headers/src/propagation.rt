@@ -5,18 +5,20 @@ ghost use Rattle.std.specs.List.{list_all, filter_map};
 ghost use Rattle.field_tables.specs.Fields.{table};
 ghost use Rattle.field_tables.specs.View.{field_view, fields_view, pairs_view, pair_view, table_view};
 ghost use Rattle.hop_headers.specs.Names.{name_text};
-ghost use Rattle.hop_headers.specs.Propagation.{BoundEntry, hops_at as hops_of_pairs, bound_at, bound_of, is_bound as is_bound_field, is_chain as is_chain_of, chain as chain_of, kept_chain as kept_of, one_less as one_less_than, first_hops as hops_of_first, hops_left as hops_left_of, if_left, new_hops as new_hops_of, has_passed as has_passed_place, bound_entry as bound_entry_of, is_other, bound_on as bound_on_args, if_short as if_short_of, propagated};
+ghost use Rattle.hop_headers.specs.Propagation.{hops_at as hops_of_pairs, bound_at, bound_of, is_bound as is_bound_field, is_chain as is_chain_of, chain as chain_of, kept_chain as kept_of, one_less as one_less_than, first_hops as hops_of_first, hops_left as hops_left_of, if_left, new_hops as new_hops_of, has_passed as has_passed_place, bound_entry as bound_entry_of, is_other, bound_on as bound_on_args, if_short as if_short_of, propagated};
 
 use crate::entry::PlaceName;
 use crate::gate::has_been_at;
 use crate::hops::{PlaceTexts, place_at};
 use crate::names::FieldName;
 use crate::pairs::{Pairs, array_value, copy_values, put, table_value};
-use crate::room::is_short;
 use crate::stamps::put_names;
 use crate::values::{array_at, table_of, text_at};
-use field_tables::{FieldValue, Table};
+use field_tables::{FieldValue, Table, is_within};
 use std::alloc::{AllocError, Global};
+
+/// How many octets the arguments of a binding have at most.
+const MAX_ARGUMENTS: usize = 98_304;
 
 /// The hops that a table has.
 fn hops_at(table: &Table) -> Option<i32>
@@ -222,10 +224,15 @@ fn bound_on(
 }
 
 /// The arguments, unless they are too long for a binding.
+#[tactic(auto, unfolding(crate::specs::Propagation::is_short))]
 fn if_short(table: Table) -> Option<Table>
     ensures { option_map table_view result ≡ if_short_of (table_view table) }
 {
-    if is_short(&table) { Some(table) } else { None }
+    if is_within(&table, MAX_ARGUMENTS) {
+        Some(table)
+    } else {
+        None
+    }
 }
 
 /// The arguments of the upstream binding that stands for a binding of the downstream exchange with these arguments;

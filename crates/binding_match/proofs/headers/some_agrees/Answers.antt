@@ -1,7 +1,7 @@
 use Rattle.std.proofs.Common.{drop, ◌∙◌, arith, rules}
 use Rattle.std.proofs.lemmas.List.{drop_all}
 use Rattle.field_tables.specs.View.{table_view}
-use Rattle.binding_match.proofs.Lists.{from_item}
+use Rattle.field_tables.proofs.Lists.{from_item}
 use Rattle.binding_match.proofs.HeaderLemmas.{some_go, some_stop, some_end}
 use Rattle.binding_match.proofs.headers.some_agrees.Goals as goal
 

@@ -1,7 +1,8 @@
 use Rattle.std.proofs.Common.{drop, ◌∙◌, arith, rules}
 use Rattle.std.proofs.lemmas.List.{drop_all}
 use Rattle.hop_headers.specs.Gate.{place, is_at}
-use Rattle.hop_headers.proofs.Loops.{from_item, any_go, any_stop, any_end}
+use Rattle.field_tables.proofs.Lists.{from_item}
+use Rattle.hop_headers.proofs.Loops.{any_go, any_stop, any_end}
 use Rattle.hop_headers.proofs.gate.has_been_at.Goals as goal
 
 pub returns-then-is_at : goal.returns-then-is_at

@@ -1,7 +1,8 @@
 use Rattle.std.proofs.Common.{drop, ◌∙◌, arith, rules}
 use Rattle.std.proofs.lemmas.List.{drop_all}
 use Rattle.hop_headers.specs.Hops.{names_place}
-use Rattle.hop_headers.proofs.Loops.{from_item, all_go, all_stop, all_end}
+use Rattle.field_tables.proofs.Lists.{from_item}
+use Rattle.hop_headers.proofs.Loops.{all_go, all_stop, all_end}
 use Rattle.hop_headers.proofs.hops.all_name_places.Goals as goal
 
 pub returns-then-not-names_place : goal.returns-then-not-names_place

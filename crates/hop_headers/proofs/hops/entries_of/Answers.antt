@@ -1,7 +1,8 @@
 use Rattle.std.proofs.Common.{drop, ◌∙◌, arith, rules}
 use Rattle.std.proofs.lemmas.List.{drop_all}
 use Rattle.hop_headers.specs.Hops.{entry_of}
-use Rattle.hop_headers.proofs.Loops.{from_item, map_go, map_end}
+use Rattle.field_tables.proofs.Lists.{from_item}
+use Rattle.hop_headers.proofs.Loops.{map_go, map_end}
 use Rattle.hop_headers.proofs.hops.entries_of.Goals as goal
 
 pub loop-value-preserved : goal.loop-value-preserved

@@ -1,7 +1,8 @@
 use Rattle.std.proofs.Common.{drop, ◌∙◌, arith, rules}
 use Rattle.std.proofs.lemmas.List.{drop_all}
 use Rattle.hop_headers.specs.Propagation.{is_bound}
-use Rattle.hop_headers.proofs.Loops.{from_item, all_go, all_stop, all_end}
+use Rattle.field_tables.proofs.Lists.{from_item}
+use Rattle.hop_headers.proofs.Loops.{all_go, all_stop, all_end}
 use Rattle.hop_headers.proofs.propagation.all_bound.Goals as goal
 
 pub returns-then-not-is_bound : goal.returns-then-not-is_bound

@@ -1,13 +1,17 @@
--- How many octets a table takes (AMQP 0-9-1, 4.2.5.5 "Field Tables"), counted down from those that there is room for.
-use Rattle.std.specs.Prelude.{ℕ, ◌+◌, ◌-◌, nat_le, length, Option, Some, None, if◌then◌else◌}
+-- How many octets a table takes (AMQP 0-9-1, 4.2.5.5 "Field Tables").
+use Rattle.std.specs.Prelude.{ℕ, ◌+◌, ◌-◌, nat_le, Bool, length, Option, Some, None, if◌then◌else◌}
 use Rattle.field_tables.specs.Fields.{Field, boolean, signed_octet, octet, signed_short, short, signed_long, long, signed_longlong, float, double, decimal, long_string, array, timestamp, table, void, byte_array, Fields, Pairs}
-use Rattle.field_tables.specs.Tables.{value_spelling, fields_spelling, pairs_spelling}
+use Rattle.field_tables.specs.Tables.{value_spelling, fields_spelling, pairs_spelling, table_spelling}
 
--- What is left of a number of octets; None where they are fewer than those that are taken.
+-- The spelling of the table, its count among it, has at most so many octets (AMQP 0-9-1, 4.2.5.5 "Field Tables").
+abbrev pub is_within : Pairs → ℕ → Bool
+is_within ps most = nat_le (length (table_spelling ps)) most
+
+-- What is left of a number of octets that there is room for; None where they are fewer than those that are taken.
 unfoldable pub room_after : ℕ → ℕ → Option ℕ
 room_after room n = if nat_le n room then Some (room - n) else None
 
--- How many octets a value, the values of an array, and the names and values of a table take.
+-- How many octets a value, the values of an array, the names and values of a table, and a table take (AMQP 0-9-1, 4.2.1 "Formal Protocol Grammar").
 unfoldable pub value_length : Field → ℕ
 value_length v = length (value_spelling v)
 
@@ -17,7 +21,10 @@ fields_length vs = length (fields_spelling vs)
 unfoldable pub pairs_length : Pairs → ℕ
 pairs_length ps = length (pairs_spelling ps)
 
--- The octets of a value apart from the values in it: its type, and its content or the number of the octets in it.
+unfoldable pub table_length : Pairs → ℕ
+table_length ps = length (table_spelling ps)
+
+-- The octets of a value apart from the values in it: its type, and its content or the number of the octets in it (RabbitMQ's AMQP 0-9-1 Errata, "Field types").
 unfoldable pub flat_length : Field → ℕ
 flat_length (boolean b) = 2
 flat_length (signed_octet n) = 2

@@ -1,10 +1,10 @@
 use Rattle.std.proofs.Common.{◌≡◌, drop, None, sym, ap, ◌∙◌, arith, rules}
 use Rattle.std.proofs.lemmas.List.{drop_all}
 use Rattle.field_tables.specs.View.{field_view}
-use Rattle.hop_headers.specs.Room.{room_after, value_length}
-use Rattle.hop_headers.proofs.Loops.{from_item}
-use Rattle.hop_headers.proofs.RoomLemmas.{inner_table, taken_some, taken_none, flat_none, flat_some, values_none, values_some, values_end, pairs_none, pairs_some, pairs_end}
-use Rattle.hop_headers.proofs.room.+room.Goals as goal
+use Rattle.field_tables.specs.Lengths.{room_after, value_length}
+use Rattle.field_tables.proofs.Lists.{from_item}
+use Rattle.field_tables.proofs.LengthLemmas.{inner_table, taken_some, taken_none, flat_none, flat_some, values_none, values_some, values_end, pairs_none, pairs_some, pairs_end}
+use Rattle.field_tables.proofs.length.+room.Goals as goal
 
 pub after_inner-returns-in-Table : goal.after_inner-returns-in-Table
 after_inner-returns-in-Table t c = c.after_pairs.ensures ∙ ap (room_after c.args.room) (inner_table c.args.value.now c.in-Table.table.pairs c.in-Table.is)

@@ -1,6 +1,6 @@
 use Rattle.std.proofs.Common.{◌∙◌, sym}
-use Rattle.hop_headers.proofs.RoomLemmas.{taken_some, taken_none}
-use Rattle.hop_headers.proofs.room.take_more.Goals as goal
+use Rattle.field_tables.proofs.LengthLemmas.{taken_some, taken_none}
+use Rattle.field_tables.proofs.length.take_more.Goals as goal
 
 pub returns-in-Some : goal.returns-in-Some
 returns-in-Some c = c.take-in-Some.ensures ∙ taken_some c.args.room c.args.first c.args.count c.in-Some.left (sym c.in-Some.ensures)

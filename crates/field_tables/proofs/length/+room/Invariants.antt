@@ -1,7 +1,7 @@
 use Rattle.std.proofs.Common.{◌≡◌, drop}
 use Rattle.field_tables.specs.View.{fields_of, pairs_of, fields_view, pairs_view}
-use Rattle.hop_headers.specs.Room.{room_after, fields_length, pairs_length}
-use Rattle.hop_headers.proofs.room.+room.Given as goal
+use Rattle.field_tables.specs.Lengths.{room_after, fields_length, pairs_length}
+use Rattle.field_tables.proofs.length.+room.Given as goal
 
 abbrev pub invariant-after_values-loop-value : goal.invariant-after_values-loop-value
 invariant-after_values-loop-value l =

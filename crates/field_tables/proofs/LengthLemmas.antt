@@ -4,13 +4,12 @@ use Rattle.std.specs.Prelude.{option_and_then, nat_le, is_some}
 use Rattle.std.proofs.lemmas.Bool.{leb-true, leb-false, le-leb, lt-leb}
 use Rattle.std.proofs.lemmas.List.{length-append}
 use Rattle.field_tables.specs.Fields.{Field, float, double, decimal, long_string, array, table, byte_array, Fields, field, Pairs, pair}
-use Rattle.field_tables.specs.Tables.{value_spelling, fields_spelling, pairs_spelling, name_spelling, table_spelling}
+use Rattle.field_tables.specs.Tables.{value_spelling, fields_spelling, pairs_spelling, name_spelling, table_spelling, IsTable}
 use Rattle.field_tables.specs.View.{fields_of, pairs_of, field_view, fields_view, pairs_view}
 use Rattle.field_tables.specs.declared.value.FieldValue.{FieldValue}
 use Rattle.field_tables.specs.declared.value.FieldValue.TheViews.{Table, roll-Table}
-use Rattle.hop_headers.proofs.Views.{view-Table}
-use Rattle.hop_headers.specs.Room.{room_after, value_length, fields_length, pairs_length, flat_length, inner_length}
-use Rattle.hop_headers.specs.Propagation.{is_short}
+use Rattle.field_tables.proofs.Views.{view-Table}
+use Rattle.field_tables.specs.Lengths.{is_within, room_after, value_length, fields_length, pairs_length, table_length, flat_length, inner_length}
 
 -- what is left after so many octets
 left_after : (room n : ℕ) → n ≤ room → room_after room n ≡ Some (room - n)
@@ -60,17 +59,17 @@ value_is (long_string bytes) = omega arith
 value_is (byte_array bytes) = omega arith
 value_is _ = refl
 
-pub text_length : (bytes : List ℕ) → value_length (long_string bytes) ≡ 5 + length bytes
+pub text_value_length : (bytes : List ℕ) → value_length (long_string bytes) ≡ 5 + length bytes
 unfolding value_length
-text_length bytes = omega arith
+text_value_length bytes = omega arith
 
-pub table_length : (ps : Pairs) → value_length (table ps) ≡ 5 + pairs_length ps
+pub table_value_length : (ps : Pairs) → value_length (table ps) ≡ 5 + pairs_length ps
 unfolding value_length pairs_length
-table_length ps = omega arith
+table_value_length ps = omega arith
 
-pub array_length : (vs : Fields) → value_length (array vs) ≡ 5 + fields_length vs
+pub array_value_length : (vs : Fields) → value_length (array vs) ≡ 5 + fields_length vs
 unfolding value_length fields_length
-array_length vs = omega arith
+array_value_length vs = omega arith
 
 pub flat_none : (room : ℕ) (v : Field) → room_after room (flat_length v) ≡ None → None ≡ room_after room (value_length v)
 flat_none room v e = taken_none room (flat_length v) (inner_length v) e ∙ ap (room_after room) (value_is v)
@@ -113,16 +112,45 @@ pub pairs_end : (left : ℕ) (ps : List (String Global × FieldValue)) → ps �
 unfolding pairs_length
 pairs_end left ps is = rw is (taken_all left)
 
--- a table is short enough where there is room for its names and values, behind their number
-fits : (n : ℕ) (t : Bool) → nat_le n 98300 ≡ t → is_some (cond t (Some (98300 - n)) None) ≡ nat_le (4 + n) 98304
-fits n true e = sym (le-leb (4 + n) 98304 (omega (arith, leb-true n 98300 e)))
-fits n false e = sym (lt-leb (4 + n) 98304 (omega (arith, leb-false n 98300 e)))
+-- a table: four octets count those of its names and values
+pub table_more : (ps : Pairs) → table_length ps ≡ 4 + pairs_length ps
+unfolding table_length pairs_length
+table_more ps = omega arith
 
-pub short_is : (ps : Pairs) → is_some (room_after 98300 (pairs_length ps)) ≡ is_short ps
-unfolding is_short room_after pairs_length
-short_is ps =
-    let more : 4 + length (pairs_spelling ps) ≡ length (table_spelling ps) = omega arith in
-    fits (length (pairs_spelling ps)) (nat_le (length (pairs_spelling ps)) 98300) refl ∙ ap (λ (k : ℕ). nat_le k 98304) more
+pub table_some : (room left : ℕ) (ps : Pairs) → room_after room 4 ≡ Some left → room_after left (pairs_length ps) ≡ room_after room (table_length ps)
+table_some room left ps e = rw (table_more ps) (taken_some room 4 (pairs_length ps) left e)
+
+pub table_none : (room : ℕ) (ps : Pairs) → room_after room 4 ≡ None → None ≡ room_after room (table_length ps)
+table_none room ps e = rw (table_more ps) (taken_none room 4 (pairs_length ps) e)
+
+-- there is room for a table exactly where it is within
+fits : (n room : ℕ) (t : Bool) → is_some (cond t (Some (room - n)) None) ≡ t
+fits n room true = refl
+fits n room false = refl
+
+pub within_is : (ps : Pairs) (most : ℕ) → is_some (room_after most (table_length ps)) ≡ is_within ps most
+unfolding room_after table_length
+within_is ps most = fits (length (table_spelling ps)) most (nat_le (length (table_spelling ps)) most)
+
+-- a table that has a spelling has its octets, however much room there is at least
+some_is : (room left n : ℕ) → n ≤ room → Some left ≡ room_after room n → room - left ≡ n
+some_is room left n h e =
+    let same : left ≡ room - n = let is : Some left ≡ Some (room - n) = e ∙ left_after room n h in cc in
+    omega (arith, same, h)
+
+none_is : (room n : ℕ) → n ≤ room → None ≡ room_after room n → ⊥
+none_is room n h e = let is : None ≡ Some (room - n) = e ∙ left_after room n h in absurd cc
+
+spelled_within : (ps : Pairs) → IsTable ps → table_length ps ≤ 18446744073709551615
+unfolding table_length
+spelled_within ps h = omega (arith, h.counted)
+
+pub spelled_some : (left : ℕ) (ps : Pairs) → IsTable ps → Some left ≡ room_after 18446744073709551615 (table_length ps) → 18446744073709551615 - left ≡ length (table_spelling ps)
+unfolding table_length
+spelled_some left ps h e = some_is 18446744073709551615 left (table_length ps) (spelled_within ps h) e
+
+pub spelled_none : (ps : Pairs) → IsTable ps → None ≡ room_after 18446744073709551615 (table_length ps) → ⊥
+spelled_none ps h e = none_is 18446744073709551615 (table_length ps) (spelled_within ps h) e
 
 -- a table among the values
 pub inner_table : (value : FieldValue) (ps : Vec (String Global × FieldValue) Global) → value ≡ Table (roll-Table record { pairs = ps }) → pairs_length (pairs_of (pairs_view ps.items)) ≡ inner_length (field_view value)
