@@ -1,3 +1,4 @@
+pub mod LimitLemmas
 pub mod Lists
 pub mod ObjectLemmas
 pub mod RoundLemmas

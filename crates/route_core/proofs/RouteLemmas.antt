@@ -1,6 +1,6 @@
 -- From what is reached to the routes of a message.
-use Rattle.std.proofs.Common.{◌≡◌, ◌≢◌, ℕ, ◌<◌, ◌≤◌, ◌++◌, inl, inr, Bool, true, false, cond, not, ◌&&◌, List, [], ◌∷◌, Option, Some, None, refl, ap, sym, ◌∙◌, subst, arith}
-use Rattle.std.specs.Prelude.{All, nat_lt, max}
+use Rattle.std.proofs.Common.{◌≡◌, ◌≢◌, ℕ, ◌<◌, ◌≤◌, ◌++◌, inl, inr, Bool, true, false, cond, not, List, [], ◌∷◌, Option, Some, None, refl, ap, sym, ◌∙◌, subst, arith}
+use Rattle.std.specs.Prelude.{All, max}
 use Rattle.std.specs.List.{Contains, Any, AllPairs, filter_map}
 use Rattle.std.proofs.lemmas.Bool.{true≢false, false≢true, and_parts, ltb-true, cases_lt}
 use Rattle.std.proofs.lemmas.List.Elements.{All-nil, All-push, All-weaker, All-contains, All-contains_itself}
@@ -43,9 +43,6 @@ numbered stops o n e =
 
 number_given : (stops : List Stop) (name : List ℕ) (n : ℕ) → is_among stops sorts.Queue name ≡ true → number_at stops (object_named name (nodes.Queue n)) ≡ Some n
 number_given stops name n h = ap (λ b. cond b (Some n) None) h
-
-number_below : (m n : ℕ) (p : Bool) → (p && nat_lt m n) ≡ true → m < n
-number_below m n p h = ltb-true m n (and_parts p (nat_lt m n) h).1
 
 numbers_rise : (stops : List Stop) (x y : Object) (m n : ℕ) → is_after x y ≡ true → number_at stops x ≡ Some m → number_at stops y ≡ Some n → m < n
 numbers_rise stops x y m n after e f =

@@ -1,6 +1,7 @@
 -- The routes as a function: what a message reaches, found round by round.
-use Rattle.std.specs.Prelude.{ℕ, zero, suc, Bool, true, false, not, ◌&&◌, List, [], ◌∷◌, ◌++◌, Option, Some, None, filter, map, length, if◌then◌else◌}
+use Rattle.std.specs.Prelude.{ℕ, zero, suc, Bool, true, false, not, ◌&&◌, List, [], ◌∷◌, ◌++◌, Option, Some, None, filter, map, max, length, if◌then◌else◌}
 use Rattle.std.specs.List.{filter_map}
+use Rattle.std.specs.Option.{option_map_or}
 use Rattle.std.specs.Str.{bytes_eq}
 use Rattle.amqp_props.specs.declared.link.ExchangeKind.{ExchangeKind}
 use Rattle.amqp_props.specs.declared.link.ExchangeKind.TheVariants as kinds
@@ -16,7 +17,7 @@ use Rattle.route_core.specs.Objects.{same_sort, sort_of, number_of}
 use Rattle.route_core.specs.Routing.{Routing}
 use Rattle.route_core.specs.Walks.{Publish, Stop, exchange_stop, dest_of, exchange_node}
 use Rattle.client_rules.specs.Names.{is_reserved}
-use Rattle.route_core.specs.Spreading.{is_among}
+use Rattle.route_core.specs.Spreading.{is_among, gate_limit}
 
 -- Whether a binding takes the message, by the type of the exchange that it leaves (AMQP 0-9-1, 3.1.3 "Exchange Types").
 abbrev pub takes_by_type : ExchangeKind → Publish → Binding → Bool
@@ -73,3 +74,16 @@ routed_names r p = map (λ o. o.name) (routed r p)
 -- their numbers
 abbrev pub routed_numbers : Routing → Publish → List ℕ
 routed_numbers r p = filter_map (λ o. number_of o.node) (routed r p)
+
+-- The limit of the gate that the binding leaves, 0 where it leaves no gate (RabbitMQ's "Federated Exchanges": max-hops).
+abbrev pub limit_from : List Object → Binding → ℕ
+limit_from objects b = option_map_or gate_limit (exchange_node b.source objects) 0
+
+-- The greatest of these numbers, 0 where there is none.
+abbrev pub greatest : List ℕ → ℕ
+greatest [] = 0
+greatest (n ∷ ns) = max n (greatest ns)
+
+-- The greatest limit of a gate that the message passes, 0 where it passes none: of those that a binding leaves which is followed (RabbitMQ's "Federated Exchanges": max-hops). No binding leaves the default exchange.
+unfoldable pub walk_limit : Routing → Publish → ℕ
+walk_limit r p = if bytes_eq p.exchange [] then 0 else greatest (map (limit_from r.objects) (filter (is_followed r p (stops r p)) r.bindings))

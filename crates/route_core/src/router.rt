@@ -8,7 +8,7 @@ ghost use Rattle.route_core.specs.Objects.{has as has_object, sort_of};
 ghost use Rattle.route_core.specs.Bindings.{binding_of, has_binding as has_same};
 ghost use Rattle.route_core.specs.Routing.{predeclared as predeclared_exchanges, stands, IsNext, with_object, without_object, with_binding, without_binding, bindings_from, key_and_arguments};
 ghost use Rattle.route_core.specs.Walks.{publish, AreRoutes, IsWalkLimit};
-ghost use Rattle.route_core.specs.Routes.{routed_names, routed_numbers};
+ghost use Rattle.route_core.specs.Routes.{routed_names, routed_numbers, walk_limit};
 
 use crate::binding::{Asked, Binding, binding_at, has_binding, remove_binding, remove_ends};
 use crate::fault::RouteFault;
@@ -261,6 +261,7 @@ impl Router {
         ensures routes { IfOk result (λ answer. AreRoutes self.now.routing (publish exchange.now key.now (table_view headers.now)) answer.0.items) }
         ensures numbers { IfOk result (λ answer. answer.0.items ≡ routed_numbers self.now.routing (publish exchange.now key.now (table_view headers.now))) }
         ensures limit { IfOk result (λ answer. IsWalkLimit self.now.routing (publish exchange.now key.now (table_view headers.now)) answer.1) }
+        ensures limit_value { IfOk result (λ answer. answer.1 ≡ walk_limit self.now.routing (publish exchange.now key.now (table_view headers.now))) }
     {
         let publication = Publication {
             exchange,

@@ -7,7 +7,7 @@ ghost use Rattle.route_core.specs.declared.binding.Binding.{Binding as SpecBindi
 ghost use Rattle.route_core.specs.Objects.{is_after, number_of as number_of_node};
 ghost use Rattle.route_core.specs.Walks.{publish, Reaches, AreRoutes, IsWalkLimit};
 ghost use Rattle.route_core.specs.Routes.{routed_names, routed_numbers};
-ghost use Rattle.route_core.specs.Spreading.{number_at as number_at_stops, is_queue_at, gate_limit as gate_limit_of, AreStops, IsGate, GateAt};
+ghost use Rattle.route_core.specs.Spreading.{number_at as number_at_stops, is_queue_at, AreStops, IsGate, GateAt};
 
 use crate::binding::Binding;
 use crate::object::{Node, Object, QueueNo, Sort, same_sort, sort_of};
