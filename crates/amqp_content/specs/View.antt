@@ -1,13 +1,15 @@
 -- The open and whole commands that values of the program stand for.
-use Rattle.std.specs.Prelude.{◌≡◌, ℕ, Bool, List, [], ◌∷◌, ◌++◌, if◌then◌else◌, Option, Some, None, Result, Ok, Err, option_map, nat_eq}
+use Rattle.std.specs.Prelude.{◌≡◌, ℕ, Bool, List, [], ◌∷◌, ◌++◌, if◌then◌else◌, Option, Some, None, Result, Ok, Err, option_map, IfSome, nat_eq}
 use Rattle.std.specs.HashMap.{get}
 use Rattle.amqp_frames.specs.declared.frame.Frame.{Frame}
 use Rattle.amqp_methods.specs.View.{call_of}
+use Rattle.amqp_methods.specs.Methods.{FitArguments}
+use Rattle.amqp_methods.specs.declared.method.Method.{Method}
+use Rattle.amqp_props.specs.ContentHeader.{AreShort}
 use Rattle.amqp_content.specs.declared.fault.ContentFault.{ContentFault}
 use Rattle.amqp_content.specs.declared.fault.ContentFault.TheVariants.{Memory}
 use Rattle.amqp_content.specs.declared.command.Command.{Command}
 use Rattle.amqp_content.specs.declared.part.Content.{Content}
-use Rattle.amqp_content.specs.declared.part.Part.{Part}
 use Rattle.amqp_content.specs.declared.assembler.Assembler.{Assembler}
 use Rattle.amqp_content.specs.Steps.{Received, Open, Whole, is_whole, is_heartbeat, taken, feed_frame}
 use Rattle.amqp_content.specs.Commands.{IsCommand, AreOpen, NoCommand}
@@ -15,8 +17,9 @@ use Rattle.amqp_content.specs.Commands.{IsCommand, AreOpen, NoCommand}
 abbrev pub received_of : Content → Received
 received_of content = record { size = content.size; props = content.props; body = content.body.items }
 
-abbrev pub open_of : Part → Open
-open_of part = record { method = call_of part.method; content = option_map received_of part.content }
+-- a part is seen as its method and its content
+abbrev pub open_of : Method × Option Content → Open
+open_of part = record { method = call_of part.0; content = option_map received_of part.1 }
 
 abbrev pub whole_of : Command → Whole
 whole_of command = record {
@@ -28,6 +31,11 @@ whole_of command = record {
 -- the command of the channel of which frames are missing, if there is one
 abbrev pub part_of : ℕ → Assembler → Option Open
 part_of channel assembler = option_map open_of (get nat_eq assembler.parts channel)
+
+-- The method of the command can be written again, and so can the header of its content: each argument and each property
+-- has a spelling (4.2.5 "AMQP Data Fields").
+abbrev pub IsWritable : Command → Type 0
+IsWritable command = FitArguments (call_of command.method) × IfSome command.content (λ content. AreShort content.0)
 
 -- What `feed` answered: after a fault nothing of the channel's command stays, and want of memory changes nothing.
 abbrev pub Fed : Option Open → Option Open → Frame → Result (Option Command) ContentFault → Type 0

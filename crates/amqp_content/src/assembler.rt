@@ -1,9 +1,9 @@
 //! Commands of a stream of frames.
-ghost use Rattle.std.specs.Prelude.{◌≡◌, ◌≢◌, ℕ, ◌<◌, false, List, [], ◌∷◌, ◌++◌, None, slice_index, IsSome};
+ghost use Rattle.std.specs.Prelude.{◌≡◌, ◌≢◌, ℕ, ◌<◌, false, List, [], ◌∷◌, ◌++◌, None, slice_index, IsSome, IfSome, IfOk};
 ghost use Rattle.amqp_frames.specs.declared.frame.Frame.{Frame};
 ghost use Rattle.amqp_content.specs.Commands.{AreOpen, IsCommand};
 ghost use Rattle.amqp_content.specs.Steps.{Whole, is_heartbeat};
-ghost use Rattle.amqp_content.specs.View.{part_of, Fed, Spells, IsAnswer, Added};
+ghost use Rattle.amqp_content.specs.View.{part_of, Fed, Spells, IsAnswer, IsWritable, Added};
 
 use crate::command::Command;
 use crate::fault::ContentFault;
@@ -54,6 +54,9 @@ impl Assembler {
         // A command that the channel's frames spell is answered, unless memory runs out.
         ensures only { (frames : List Frame) (command : Whole) → AreOpen frame.channel frames (part_of frame.channel self.old)
             → IsCommand (frames ++ frame ∷ []) command → IsAnswer command result }
+
+        // What is answered can be written again, by `write_method` and `write_header`.
+        ensures writable { IfOk result (λ answer. IfSome answer IsWritable) }
     {
         octets_fit(frame.payload.as_slice());
         if is_heartbeat(&frame) {
@@ -73,6 +76,7 @@ impl Assembler {
         requires counts { is_heartbeat frame.now ≡ false }
         ensures exact { Fed (part_of frame.now.channel self.old) (part_of frame.now.channel self.new) frame.now result }
         ensures others { (channel : ℕ) → channel ≢ frame.now.channel → part_of channel self.new ≡ part_of channel self.old }
+        ensures writable { IfOk result (λ answer. IfSome answer IsWritable) }
     {
         let part = Part::begin(self.alloc, frame)?;
         if part.is_whole() {
@@ -89,6 +93,7 @@ impl Assembler {
         requires counts { is_heartbeat frame.now ≡ false }
         ensures exact { Fed (part_of frame.now.channel self.old) (part_of frame.now.channel self.new) frame.now result }
         ensures others { (channel : ℕ) → channel ≢ frame.now.channel → part_of channel self.new ≡ part_of channel self.old }
+        ensures writable { IfOk result (λ answer. IfSome answer IsWritable) }
     {
         match self.add(frame) {
             Ok(false) => Ok(None),

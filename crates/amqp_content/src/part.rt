@@ -1,9 +1,10 @@
 //! Commands of which frames are missing.
-ghost use Rattle.std.specs.Prelude.{◌≡◌, ◌==◌, ℕ, List, length, option_map, OnOk, OnErr};
+ghost use Rattle.std.specs.Prelude.{◌≡◌, ◌==◌, ℕ, List, length, option_map, IfOk, IfSome, OnOk, OnErr};
 ghost use Rattle.amqp_props.specs.declared.properties.Properties.{Properties};
+ghost use Rattle.amqp_props.specs.ContentHeader.{AreShort};
 ghost use Rattle.amqp_methods.specs.View.{call_of};
 ghost use Rattle.amqp_content.specs.Steps.{Gives, has_content, received_at, opened_at, with_octets, with_frame, is_whole, content_of, whole};
-ghost use Rattle.amqp_content.specs.View.{received_of, open_of, whole_of};
+ghost use Rattle.amqp_content.specs.View.{received_of, open_of, whole_of, IsWritable};
 
 use crate::command::Command;
 use crate::fault::ContentFault;
@@ -11,6 +12,7 @@ use amqp_frames::Frame;
 use amqp_methods::{Method, read_method};
 use amqp_props::{Properties, read_header};
 use std::alloc::Global;
+use std::marker::Model;
 
 /// The most octets of a body.
 pub const MAX_BODY: u64 = 16_777_216;
@@ -33,12 +35,27 @@ pub(crate) struct Content {
     pub body: Vec<u8>,
 }
 
-/// A command, as far as it came.
+/// A command, as far as it came. Its method and its properties can be written again.
 #[derive(Drop)]
 pub(crate) struct Part {
-    pub method: Method,
+    method: Method,
     /// `None` until the content header comes.
-    pub content: Option<Content>,
+    content: Option<Content>,
+}
+
+impl Model for Part {
+    ghost use Rattle.std.specs.Prelude.{Option, IfSome};
+    ghost use Rattle.amqp_props.specs.ContentHeader.{AreShort};
+    ghost use Rattle.amqp_methods.specs.declared.method.Method.{Method};
+    ghost use Rattle.amqp_methods.specs.Methods.{FitArguments};
+    ghost use Rattle.amqp_methods.specs.View.{call_of};
+    ghost use Rattle.amqp_content.specs.declared.part.Content.{Content};
+
+    ghost Value = { Method × Option Content };
+
+    ghost view = { λ p. (p.method, p.content) };
+
+    ghost invariant = { λ p. FitArguments (call_of p.method) × IfSome p.content (λ content. AreShort content.props) };
 }
 
 /// Whether the method carries content.
@@ -57,7 +74,8 @@ pub(crate) fn has_content(method: &Method) -> bool
 /// The content that a content header begins.
 #[tactic(auto, unfolding(crate::specs::Steps::received_at, crate::specs::Headers::header_of))]
 fn begin_content(alloc: Global, payload: &[u8]) -> Result<Content, ContentFault>
-    ensures { Gives received_of result (received_at payload.now) }
+    ensures gives { Gives received_of result (received_at payload.now) }
+    ensures short { IfOk result (λ content. AreShort content.props) }
 {
     let (size, props) = read_header(alloc, payload)?;
     if size > MAX_BODY {
@@ -72,8 +90,9 @@ fn begin_content(alloc: Global, payload: &[u8]) -> Result<Content, ContentFault>
 
 /// Properties and body.
 fn into_content(content: Option<Content>) -> Option<(Properties, Vec<u8>)>
-    ensures { option_map {U = Properties × List ℕ} (λ x. (x.0, x.1.items)) result
+    ensures parts { option_map {U = Properties × List ℕ} (λ x. (x.0, x.1.items)) result
         ≡ content_of (option_map received_of content) }
+    ensures short { IfSome content (λ content. AreShort content.props) → IfSome result (λ x. AreShort x.0) }
 {
     match content {
         Some(content) => Some((content.props, content.body)),
@@ -87,6 +106,7 @@ impl Content {
     fn add(&mut self, octets: &[u8]) -> Result<(), ContentFault>
         ensures gives { Gives (λ _. received_of self.new) result (with_octets (received_of self.old) octets.now) }
         ensures err { OnErr result (received_of self.new ≡ received_of self.old) }
+        ensures props { self.new.props ≡ self.old.props }
     {
         let sum = (self.body.len() + octets.len()) as u64;
         if sum > self.size {
@@ -145,7 +165,8 @@ impl Part {
 
     /// The command on this channel, of which nothing is missing.
     pub fn into_command(self, channel: u16) -> Command
-        ensures { whole_of result ≡ whole channel (open_of self) }
+        ensures whole { whole_of result ≡ whole channel (open_of self) }
+        ensures writable { IsWritable result }
     {
         let Part { method, content } = self;
         Command {

@@ -134,7 +134,7 @@ fn read_table_at(
         return Ok((None, octets));
     }
     match read_table(alloc, octets) {
-        Ok((table, count)) => Ok((Some(FieldTable::new(table)), &octets[count..])),
+        Ok((table, count)) => Ok((Some(FieldTable::new(alloc, table)?), &octets[count..])),
         Err(TableFault::Memory) => Err(PropsFault::Memory),
         Err(_) => Err(PropsFault::Field(place)),
     }

@@ -68,10 +68,10 @@ impl Eq for Octets {
     ghost laws = { Prim.search (comparing, rules) };
 }
 
-/// A field table, seen as its names and values.
+/// A field table, seen as its names and values. A clone shares them.
 #[derive(Debug, Drop)]
 pub struct FieldTable {
-    inner: Table,
+    inner: Rc<Table>,
 }
 
 impl Model for FieldTable {
@@ -86,22 +86,29 @@ impl Model for FieldTable {
 
     ghost coded = { coded_pairs };
 
-    ghost view = { λ t. table_view t.inner };
+    ghost view = { λ t. table_view t.inner.value };
 }
 
 impl FieldTable {
     /// The field table of a table.
-    pub fn new(inner: Table) -> Self
-        ensures { result ≡ table_view inner }
+    ///
+    /// # Errors
+    ///
+    /// For want of memory.
+    pub fn new(alloc: Global, table: Table) -> Result<Self, AllocError>
+        ensures { IfOk result (λ made. made ≡ table_view table) }
     {
-        FieldTable { inner }
+        match Rc::new(alloc, table) {
+            Ok(inner) => Ok(FieldTable { inner }),
+            Err(_) => Err(AllocError),
+        }
     }
 
     /// The table itself.
     pub fn as_table(&self) -> &Table
         ensures { table_view result.now ≡ self.now }
     {
-        &self.inner
+        self.inner.as_ref()
     }
 }
 
@@ -123,7 +130,7 @@ impl PartialEq for FieldTable {
         ensures tested { result ≡ same_pairs self.now other.now }
         ensures same { IsTrue result ↔ (self.now ≡ other.now) }
     {
-        self.inner == other.inner
+        *self.as_table() == *other.as_table()
     }
 }
 

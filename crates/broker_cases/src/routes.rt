@@ -86,7 +86,7 @@ fn tie(
     let source = Text::from_str(alloc, line.text(0)?)?;
     let dest = Text::from_str(alloc, line.text(1)?)?;
     let key = Text::from_str(alloc, line.text(2)?)?;
-    let args = table(alloc, line)?;
+    let args = FieldTable::new(alloc, table(alloc, line)?)?;
     let sort = sort_of(line);
     router.reserve(0, 1)?;
     if !router.has(Sort::Exchange, source.as_str()) || !router.has(sort, dest.as_str()) {
@@ -129,7 +129,7 @@ fn stands(
         sort: sort_of(line),
         dest: Text::from_str(alloc, line.text(1)?)?,
         key: Text::from_str(alloc, line.text(2)?)?,
-        args: FieldTable::new(table(alloc, line)?),
+        args: FieldTable::new(alloc, table(alloc, line)?)?,
     };
     let copy = binding.clone()?;
     answer(rt, text, copy == binding && router.has_binding(&copy))

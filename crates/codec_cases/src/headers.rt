@@ -68,8 +68,8 @@ fn is_cloned(message: &Message) -> Result<bool, AllocError> {
 }
 
 /// Whether a message's headers are this table, whose clone they are compared with.
-fn has_headers(message: &Message, table: Table) -> Result<bool, AllocError> {
-    let headers = FieldTable::new(table);
+fn has_headers(alloc: Global, message: &Message, table: Table) -> Result<bool, AllocError> {
+    let headers = FieldTable::new(alloc, table)?;
     let copy = headers.clone()?;
     Ok(message.props.headers.as_ref() == Some(&copy))
 }
@@ -86,7 +86,7 @@ fn message(rt: &(impl Print + AllocGlobal), case: &Case<'_>) -> Result<()> {
     let alloc = rt.alloc();
     let message = read_message(alloc, case)?;
     let is_cloned = is_cloned(&message)?;
-    let has_headers = has_headers(&message, case.table(alloc, 3)?)?;
+    let has_headers = has_headers(alloc, &message, case.table(alloc, 3)?)?;
     let body = hex::encode(alloc, message.body.as_slice())?;
     println!(rt;
         "{}: {is_cloned} {} {body} {has_headers}",

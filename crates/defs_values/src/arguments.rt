@@ -337,12 +337,13 @@ pub fn arguments_at(alloc: Global, value: &Value) -> Result<FieldTable, KeyFault
         → arguments.arguments_fault (view value.now) ≡ Some fault) }
 {
     let Some(found) = value_of(value, "arguments") else {
-        return Ok(FieldTable::new(Table {
+        let none = Table {
             pairs: Vec::new(alloc),
-        }));
+        };
+        return Ok(FieldTable::new(alloc, none)?);
     };
     match read_arguments(alloc, found) {
-        Ok(table) => Ok(FieldTable::new(table)),
+        Ok(table) => Ok(FieldTable::new(alloc, table)?),
         Err(fault) => Err(within(alloc, "arguments", fault)),
     }
 }

@@ -95,7 +95,7 @@ impl Binding {
             sort: asked.sort,
             dest: Text::from_str(alloc, asked.dest)?,
             key: Text::from_str(alloc, asked.key)?,
-            args: FieldTable::new(asked.args.clone()?),
+            args: FieldTable::new(alloc, asked.args.clone()?)?,
         })
     }
 

@@ -206,12 +206,12 @@ impl Router {
     }
 
     /// Binds a queue or an exchange to an exchange; false exactly where an equal binding stands. Takes no memory.
-    pub fn tie(&mut self, source: Text, sort: Sort, dest: Text, key: Text, args: Table) -> bool
+    pub fn tie(&mut self, source: Text, sort: Sort, dest: Text, key: Text, args: FieldTable) -> bool
         requires spare { 0 < self.old.spare_bindings }
         requires source { has_object sorts.Exchange source self.old.routing.objects ≡ true }
         requires dest { has_object sort dest self.old.routing.objects ≡ true }
-        ensures new { result ≡ not (has_same (binding_of source sort dest key (table_view args)) self.old.routing.bindings) }
-        ensures bound { result ≡ true → self.new.routing ≡ with_binding (binding_of source sort dest key (table_view args)) self.old.routing }
+        ensures new { result ≡ not (has_same (binding_of source sort dest key args) self.old.routing.bindings) }
+        ensures bound { result ≡ true → self.new.routing ≡ with_binding (binding_of source sort dest key args) self.old.routing }
         ensures same { result ≡ false → self.new ≡ self.old }
         ensures objects { self.new.spare_objects ≡ self.old.spare_objects }
         ensures bindings { result ≡ true → self.new.spare_bindings + 1 ≡ self.old.spare_bindings }
@@ -221,7 +221,7 @@ impl Router {
             sort,
             dest,
             key,
-            args: FieldTable::new(args),
+            args,
         };
         if has_binding(&self.bindings, binding.as_asked()) {
             return false;

@@ -356,5 +356,5 @@ pub fn arguments_of(alloc: Global, front: &str, words: &[Octets]) -> Result<Fiel
     for word in words {
         pairs.push(argument_of(alloc, front, word.as_slice())?)?;
     }
-    Ok(FieldTable::new(Table { pairs }))
+    FieldTable::new(alloc, Table { pairs })
 }

@@ -5,4 +5,4 @@ use Rattle.amqp_props.proofs.text.FieldTablePartialEq.eq.Goals as goal
 
 pub returns-clause-same : goal.returns-clause-same
 returns-clause-same c =
-    tells same_pairs same_pairs_yes same_pairs_self c.eq.result c.args.self.now c.args.other.now (c.eq.ensures.tested ∙ (λ i. same_pairs (c.self.view_is i) (c.other.view_is i)))
+    tells same_pairs same_pairs_yes same_pairs_self c.eq.result c.args.self.now c.args.other.now (c.eq.ensures.tested ∙ (λ i. same_pairs (c.as_table.ensures i) (c.as_table-2.ensures i)))
