@@ -213,27 +213,38 @@ macro_rules! read_argument {
     ($alloc:ident $rest:ident $place:literal reserved_bit) => { octet_of($rest, $place) };
 }
 
-/// An arm of the reader: the arguments one after the other, nothing after them, and the variant.
+/// An arm of the reader: the arguments one after the other, nothing after them, and the variant. Each is a `match` and no `?`,
+/// which takes three calls more to prove.
 macro_rules! read_row {
-    ($alloc:ident $rest:ident $variant:ident [$($field:ident)*]) => {{
-        end_of($rest)?;
-        Ok(Method::$variant { $($field),* })
-    }};
+    ($alloc:ident $rest:ident $variant:ident [$($field:ident)*]) => {
+        match end_of($rest) {
+            Ok(()) => Ok(Method::$variant { $($field),* }),
+            Err(fault) => Err(fault),
+        }
+    };
     ($alloc:ident $rest:ident $variant:ident [$($done:ident)*]
         $place:literal bits { $($number:literal $bit:ident),* } $(, $($more:tt)*)?) => {{
-        let (shared, rest) = octet_of($rest, $place)?;
-        $(let $bit = bit_of(shared, $number);)*
-        read_row!($alloc rest $variant [$($done)* $($bit)*] $($($more)*)?)
+        match octet_of($rest, $place) {
+            Ok((shared, rest)) => {
+                $(let $bit = bit_of(shared, $number);)*
+                read_row!($alloc rest $variant [$($done)* $($bit)*] $($($more)*)?)
+            }
+            Err(fault) => Err(fault),
+        }
     }};
     ($alloc:ident $rest:ident $variant:ident [$($done:ident)*]
         $place:literal $kind:ident $field:ident $(, $($more:tt)*)?) => {{
-        let ($field, rest) = read_argument!($alloc $rest $place $kind)?;
-        read_row!($alloc rest $variant [$($done)* $field] $($($more)*)?)
+        match read_argument!($alloc $rest $place $kind) {
+            Ok(($field, rest)) => read_row!($alloc rest $variant [$($done)* $field] $($($more)*)?),
+            Err(fault) => Err(fault),
+        }
     }};
     ($alloc:ident $rest:ident $variant:ident [$($done:ident)*]
         $place:literal $reserved:ident $(, $($more:tt)*)?) => {{
-        let (_, rest) = read_argument!($alloc $rest $place $reserved)?;
-        read_row!($alloc rest $variant [$($done)*] $($($more)*)?)
+        match read_argument!($alloc $rest $place $reserved) {
+            Ok((_, rest)) => read_row!($alloc rest $variant [$($done)*] $($($more)*)?),
+            Err(fault) => Err(fault),
+        }
     }};
 }
 

@@ -45,11 +45,6 @@ impl<'a> Case<'a> {
         Ok(if word == "-" { "" } else { word })
     }
 
-    /// All words.
-    pub fn words(&self) -> &[&'a str] {
-        self.words.as_slice()
-    }
-
     /// The octets that the word at this place spells in hexadecimal digits.
     pub fn octets(&self, alloc: Global, place: usize) -> Result<Vec<u8>> {
         Ok(hex::decode(alloc, self.word(place)?)?)

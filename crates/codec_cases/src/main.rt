@@ -1,16 +1,12 @@
-//! Worked cases of the AMQP crates. Each line of a file of cases is one case; its name and what the public calls answered are
-//! printed, so that the expected answers of all cases are this program's expected output.
+//! Worked cases of AMQP's tables, headers, matches and URIs. Each line of a file of cases is one case; its name and what the
+//! public calls answered are printed, so that the expected answers of all cases are this program's expected output.
 #![tactic(auto)]
 
 mod bindings;
 mod case;
-mod commands;
-mod frames;
 mod headers;
 mod hops;
 mod links;
-mod methods;
-mod session;
 mod tables;
 mod uris;
 
@@ -23,11 +19,7 @@ fn main(rt: HostRuntime) -> anyhow::Result<()> {
         "binding_match",
         "amqp_props",
         "hop_headers",
-        "amqp_methods",
-        "amqp_frames",
-        "amqp_content",
         "amqp_uri",
-        "session",
     ] {
         println!(rt; "# {file}")?;
         let text = fs::read_to_string(&rt, file)?;
@@ -47,26 +39,12 @@ fn run(rt: &(impl Print + AllocGlobal), file: &str, case: &Case<'_>) -> anyhow::
         "binding_match" => bindings::run(rt, case),
         "amqp_props" => headers::run(rt, case),
         "hop_headers" => hops::run(rt, case),
-        "amqp_methods" => methods::run(rt, case),
-        "amqp_frames" => frames::run(rt, case),
-        "amqp_content" => commands::run(rt, case),
-        "amqp_uri" => uris::run(rt, case),
-        _ => session::run(rt, case),
+        _ => uris::run(rt, case),
     }
 }
 
 /// The functions whose contracts are laws.
 fn laws() {
-    amqp_content::commands_are_one();
-    amqp_content::parts_are_no_commands();
-    amqp_content::parts_begin_commands();
-    amqp_frames::faults_are_one();
-    amqp_frames::frames_are_apart();
-    amqp_frames::frames_are_one();
-    amqp_frames::parts_are_short();
-    amqp_frames::parts_have_no_fault();
-    amqp_methods::rows_are_methods();
-    amqp_methods::rows_are_once();
     amqp_props::headers_are_one();
     field_tables::tables_are_apart();
     field_tables::values_are_apart();
