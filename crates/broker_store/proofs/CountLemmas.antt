@@ -28,23 +28,6 @@ uses_push key copies copy = sum_by_push (one key) copies copy
 same_some : {A : Type 0} {x y : A} → Some x ≡ Some y → x ≡ y
 same_some {A} {x} e = ap (λ r. unwrap_or r x) e
 
--- ---- copies that are seen
-
-pub uses_seen : (key n : ℕ) (copies : List (CopyMessage ℕ)) → uses key (map (as_seen n) copies) ≡ uses key copies
-uses_seen key n [] = refl
-uses_seen key n (copy ∷ copies) =
-    uses_cons key (as_seen n copy) (map (as_seen n) copies) ∙ ap (λ r. one key copy + r) (uses_seen key n copies) ∙ sym (uses_cons key copy copies)
-
-pub follows_same : (kept : Slab Kept) (copies : List (CopyMessage ℕ)) → Follows kept kept copies copies
-follows_same kept copies = record { counts = λ key. refl; fewer = λ key. omega arith; same = λ key live. refl }
-
-pub follows_seen : (kept : Slab Kept) (n : ℕ) (copies : List (CopyMessage ℕ)) → Follows kept kept copies (map (as_seen n) copies)
-follows_seen kept n copies = record {
-  counts = λ key. ap (λ r. copies_at key kept + r) (sym (uses_seen key n copies));
-  fewer = λ key. omega arith;
-  same = λ key live. refl;
-}
-
 -- ---- the copies of one queue among those of all
 
 uses_within : {Z : Type 0} (key : ℕ) (es : Entries Z) (i : ℕ) (v : Standing ℕ) → slice_get (values_of es) i ≡ Some v → uses key v.mail.copies ≤ all_uses key (named es)
@@ -117,6 +100,10 @@ one_more name n key (q ∷ queues) = λ other.
       | true ↦ omega (arith, uses_push other q.1.mail.copies (fresh n key), either_key key other)
       | false ↦ omega (arith, one_more name n key queues other)
     ]
+
+pub at_most_one : (b : Bool) → cond b 1 0 ≤ 1
+at_most_one true = omega arith
+at_most_one false = omega arith
 
 pub more_more : (key a b : ℕ) (was mid now : List (Named ℕ)) → AreMore key a was mid → AreMore key b mid now → AreMore key (a + b) was now
 more_more key a b was mid now first second = λ other.
