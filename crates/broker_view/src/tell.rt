@@ -114,12 +114,12 @@ pub fn tell(alloc: Global, host: &mut Host, entry: &Entry) -> Result<(), AllocEr
         }
         Entry::Delivered { copy, no_ack, .. } if *no_ack => host.confirms.left(*copy),
         Entry::Purged { place, queue } if is_at(host, place) => {
-            if let Some(queue) = host.vhost.copies(queue.as_str()) {
+            if let Some(queue) = host.vhost.queue_rows(queue.as_str()) {
                 host.confirms.ready_left(queue);
             }
         }
         Entry::GoneQueue { place, queue } if is_at(host, place) => {
-            if let Some(queue) = host.vhost.copies(queue.as_str()) {
+            if let Some(queue) = host.vhost.queue_rows(queue.as_str()) {
                 host.confirms.rows_left(queue);
             }
         }

@@ -1,7 +1,7 @@
 //! A virtual host: what stands in it, and the calls that read it.
 
 ghost use Rattle.std.specs.Prelude.{◌≡◌, [], IfOk};
-ghost use Rattle.std.specs.Option.{option_map, option_map_or, option_and_then};
+ghost use Rattle.std.specs.Option.{is_some, option_map, option_map_or, option_and_then};
 ghost use Rattle.route_core.specs.Bindings.{has_binding as is_bound};
 ghost use Rattle.broker_store.specs.Queues.{queue_of, rows_of, ready_in, ready_count, copy_count};
 ghost use Rattle.mini_broker.specs.Deliver.{held_count as count_of_held};
@@ -139,9 +139,10 @@ impl Vhost {
         }
     }
 
-    /// The copies that are in the queue; None only where there is no queue of that name, and so no copy.
-    pub fn copies(&self, name: &str) -> Option<&Queue>
-        ensures { option_map_or (λ queue. queue.now) result [] ≡ rows_of name.now self.now.queues }
+    /// The copies that are in the queue; None exactly where there is no queue of that name.
+    pub fn queue_rows(&self, name: &str) -> Option<&Queue>
+        ensures there { is_some result ≡ is_some (queue_of name.now self.now.queues) }
+        ensures rows { option_map_or (λ queue. queue.now) result [] ≡ rows_of name.now self.now.queues }
     {
         match self.queues.find(name) {
             Some(queue) => Some(queue.mail.queue()),
