@@ -6,7 +6,7 @@ use crate::line::{Line, answer, done, is_call, maybe};
 use amqp_props::Text;
 use anyhow::{Result, bail};
 use broker_store::Confirms;
-use queue_core::{Hold, Holder, Row};
+use queue_core::{Holder, Queue};
 use std::alloc::{AllocError, Global};
 
 const SESSION: Holder = Holder {
@@ -37,24 +37,23 @@ fn opened_both(alloc: Global, feed: &Text, line: &Line<'_>) -> Result<Confirms> 
     Ok(confirms)
 }
 
-/// A copy that is ready, and one that is held.
-fn rows(line: &Line<'_>) -> Result<[Row; 2]> {
-    let ready = Row {
-        copy: line.number(0)?,
-        hold: Hold::Ready,
-        stored: false,
-    };
-    let held = Row {
-        copy: line.number(1)?,
-        hold: Hold::Held(SESSION),
-        stored: false,
-    };
-    Ok([ready, held])
+/// A queue with a copy that is ready, and one that is held.
+fn queue(alloc: Global, line: &Line<'_>) -> Result<Queue> {
+    let ready = line.number(0)?;
+    let held = line.number(1)?;
+    if ready >= held {
+        bail!("copies don't rise");
+    }
+    let mut queue = Queue::new(alloc);
+    queue.enter(ready)?;
+    queue.enter(held)?;
+    queue.hand_copy(held, SESSION);
+    Ok(queue)
 }
 
 /// Makes a call.
 fn call(
-    rt: &impl Print,
+    rt: &(impl Print + AllocGlobal),
     text: &str,
     line: &Line<'_>,
     feed: &Text,
@@ -68,10 +67,10 @@ fn call(
         confirms.flushed();
         done(rt, text)
     } else if call == "deleted" {
-        confirms.rows_left(&rows(line)?);
+        confirms.rows_left(&queue(rt.alloc(), line)?);
         done(rt, text)
     } else if call == "purged" {
-        confirms.ready_left(&rows(line)?);
+        confirms.ready_left(&queue(rt.alloc(), line)?);
         done(rt, text)
     } else if call == "next" {
         maybe(rt, text, confirms.next_ready(feed, line.small(0)?))

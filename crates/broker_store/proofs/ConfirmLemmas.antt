@@ -1,13 +1,15 @@
 -- What opens a publication, and what copies that leave lead to.
-use Rattle.std.proofs.Common.{◌≡◌, ℕ, zero, suc, ◌+◌, ◌<◌, ◌==◌, true, false, cond, not, List, [], ◌∷◌, ◌++◌, length, get_or, take, drop, map, refl, ap, ◌∙◌, add-one, arith, drop-cons, eq-eqb}
-use Rattle.std.specs.Prelude.{All, ◌||◌, ◌&&◌}
+use Rattle.std.proofs.Common.{◌≡◌, ℕ, zero, suc, ◌+◌, ◌<◌, ◌==◌, true, false, cond, not, List, [], ◌∷◌, ◌++◌, length, take, drop, map, refl, ap, ◌∙◌, arith, eq-eqb}
+use Rattle.std.specs.Prelude.{All, filter, ◌||◌, ◌&&◌}
 use Rattle.std.specs.List.{list_any}
 use Rattle.std.proofs.lemmas.Bool.{true≢false}
 use Rattle.std.proofs.lemmas.List.{map-append, drop_all, take_all, append-nil}
 use Rattle.std.proofs.lemmas.Slice.Eq.{bytes_eq-Decides}
 use Rattle.std.proofs.lemmas.Bool.Decides.{nat_tests}
 use Rattle.std.proofs.lemmas.List.Elements.{All-head, All-tail, All-weaker}
+use Rattle.queue_core.specs.declared.rows.Hold.{Hold}
 use Rattle.queue_core.specs.declared.rows.Row.{Row}
+use Rattle.queue_core.specs.Rows.{is_ready, is_ready_hold}
 use Rattle.confirm_core.specs.Waits.{Unconfirmed, is_open, released, without}
 use Rattle.broker_store.specs.declared.account.Account.{Account}
 use Rattle.broker_store.specs.Confirms.{is_of, with_ledger, all_ledgers, its_ledger, opened, all_left, AreBelow}
@@ -21,9 +23,19 @@ last_closed number (p ∷ ledger) below =
     let rest : is_open number ledger ≡ false = last_closed number ledger (All-tail (λ (publication : Unconfirmed). publication.number < number) p ledger below) in
     grind (arith, nat_tests)
 
--- once one more copy left, those that are left lead to the same
-pub left_more : (rows : List Row) (i : ℕ) (d : Row) (accounts : List Account) → i < length rows → all_left (map (λ row. row.copy) (drop (i + 1) rows)) (all_ledgers (released (get_or rows i d).copy) accounts) ≡ all_left (map (λ row. row.copy) (drop i rows)) accounts
-left_more rows i d accounts within = rw (add-one, drop-cons rows i d) refl
+-- the copies of a queue's rows
+pub all_copies : (rows : List Row) → map (λ (e : ℕ × Hold). e.0) (map (λ (row : Row). (row.copy, row.hold)) rows) ≡ map (λ (row : Row). row.copy) rows
+all_copies [] = refl
+all_copies (r ∷ rows) = ap (λ rest. r.copy ∷ rest) (all_copies rows)
+
+-- and those of the ready ones
+pub ready_copies : (rows : List Row) → map (λ (e : ℕ × Hold). e.0) (filter (λ (e : ℕ × Hold). is_ready_hold e.1) (map (λ (row : Row). (row.copy, row.hold)) rows)) ≡ map (λ (row : Row). row.copy) (filter is_ready rows)
+ready_copies [] = refl
+ready_copies (r ∷ rows) =
+    elim (is_ready r) as (λ b. map (λ (e : ℕ × Hold). e.0) (cond b ((r.copy, r.hold) ∷ filter (λ (e : ℕ × Hold). is_ready_hold e.1) (map (λ (row : Row). (row.copy, row.hold)) rows)) (filter (λ (e : ℕ × Hold). is_ready_hold e.1) (map (λ (row : Row). (row.copy, row.hold)) rows))) ≡ map (λ (row : Row). row.copy) (cond b (r ∷ filter is_ready rows) (filter is_ready rows))) [
+      | true ↦ ap (λ rest. r.copy ∷ rest) (ready_copies rows)
+      | false ↦ ready_copies rows
+    ]
 
 -- ---- a publication that is opened is taken back
 

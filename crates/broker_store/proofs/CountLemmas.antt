@@ -14,6 +14,7 @@ use Rattle.broker_store.specs.declared.messages.Kept.{Kept}
 use Rattle.broker_store.specs.Mail.{as_seen, entered, fresh}
 use Rattle.broker_store.specs.Messages.{no_message, message_at, copies_at, uses, all_uses, IsCounted, Covers, Follows, Remains, AreMore, IsAdded, copy_with, queue_with, queues_with}
 use Rattle.broker_store.specs.Queues.{all_entered, Standing, Named, named, queue_of, changed, with_mail, others}
+use Rattle.broker_store.proofs.KeyLemmas.{entered_with}
 use Rattle.broker_store.proofs.QueueLemmas.{Entries}
 
 abbrev one : ℕ → CopyMessage ℕ → ℕ
@@ -27,23 +28,6 @@ uses_push key copies copy = sum_by_push (one key) copies copy
 
 same_some : {A : Type 0} {x y : A} → Some x ≡ Some y → x ≡ y
 same_some {A} {x} e = ap (λ r. unwrap_or r x) e
-
--- ---- copies that are seen
-
-pub uses_seen : (key n : ℕ) (copies : List (CopyMessage ℕ)) → uses key (map (as_seen n) copies) ≡ uses key copies
-uses_seen key n [] = refl
-uses_seen key n (copy ∷ copies) =
-    uses_cons key (as_seen n copy) (map (as_seen n) copies) ∙ ap (λ r. one key copy + r) (uses_seen key n copies) ∙ sym (uses_cons key copy copies)
-
-pub follows_same : (kept : Slab Kept) (copies : List (CopyMessage ℕ)) → Follows kept kept copies copies
-follows_same kept copies = record { counts = λ key. refl; fewer = λ key. omega arith; same = λ key live. refl }
-
-pub follows_seen : (kept : Slab Kept) (n : ℕ) (copies : List (CopyMessage ℕ)) → Follows kept kept copies (map (as_seen n) copies)
-follows_seen kept n copies = record {
-  counts = λ key. ap (λ r. copies_at key kept + r) (sym (uses_seen key n copies));
-  fewer = λ key. omega arith;
-  same = λ key live. refl;
-}
 
 -- ---- the copies of one queue among those of all
 
@@ -118,6 +102,10 @@ one_more name n key (q ∷ queues) = λ other.
       | false ↦ omega (arith, one_more name n key queues other)
     ]
 
+pub at_most_one : (b : Bool) → cond b 1 0 ≤ 1
+at_most_one true = omega arith
+at_most_one false = omega arith
+
 pub more_more : (key a b : ℕ) (was mid now : List (Named ℕ)) → AreMore key a was mid → AreMore key b mid now → AreMore key (a + b) was now
 more_more key a b was mid now first second = λ other.
     elim (other == key) as (λ t. all_uses other mid ≡ all_uses other was + cond t a 0 → all_uses other now ≡ all_uses other mid + cond t b 0 → all_uses other now ≡ all_uses other was + cond t (a + b) 0) [
@@ -142,24 +130,6 @@ added_counted message copies was now queues more counted vacant added are = λ k
     ] refl (are key)
 
 -- ---- what the queues show, once a message is kept for copies that entered
-
-mail_with_entered : {A B : Type 0} (of : A → B) (n : ℕ) (key : A) (queue : Standing A) → queue_with of (with_mail (entered n key) queue) ≡ with_mail (entered n (of key)) (queue_with of queue)
-mail_with_entered of n key queue =
-    let more = map-append (copy_with of) queue.mail.copies (fresh n key ∷ []) in
-    λ i. record { number = queue.number; options = queue.options; owner = queue.owner; mail = record { rows = (entered n key queue.mail).rows; copies = more i } }
-
-changed_with : {A B : Type 0} (of : A → B) (name : List ℕ) (n : ℕ) (key : A) (queues : List (Named A)) → queues_with of (changed name (with_mail (entered n key)) queues) ≡ changed name (with_mail (entered n (of key))) (queues_with of queues)
-changed_with of name n key [] = refl
-changed_with of name n key (q ∷ queues) =
-    elim (bytes_eq name q.0) as (λ b. queues_with of (cond b ((q.0, with_mail (entered n key) q.1) ∷ queues) (q ∷ changed name (with_mail (entered n key)) queues)) ≡ cond b ((q.0, with_mail (entered n (of key)) (queue_with of q.1)) ∷ queues_with of queues) ((q.0, queue_with of q.1) ∷ changed name (with_mail (entered n (of key))) (queues_with of queues))) [
-      | true ↦ ap (λ queue. (q.0, queue) ∷ queues_with of queues) (mail_with_entered of n key q.1)
-      | false ↦ ap (λ rest. (q.0, queue_with of q.1) ∷ rest) (changed_with of name n key queues)
-    ]
-
-entered_with : {A B : Type 0} (of : A → B) (names : List (List ℕ)) (n : ℕ) (key : A) (queues : List (Named A)) → queues_with of (all_entered names n key queues) ≡ all_entered names n (of key) (queues_with of queues)
-entered_with of [] n key queues = refl
-entered_with of (name ∷ names) n key queues =
-    entered_with of names (n + 1) key (changed name (with_mail (entered n key)) queues) ∙ ap (all_entered names (n + 1) (of key)) (changed_with of name n key queues)
 
 -- the message under the next key, and what was kept under the others
 abbrev with_next : Message → Slab Kept → ℕ → Message

@@ -1,5 +1,5 @@
 -- Copies that enter, and that leave again for want of memory.
-use Rattle.std.proofs.Common.{◌≡◌, ℕ, ◌+◌, ◌<◌, ◌==◌, Bool, true, false, cond, not, List, [], ◌∷◌, ◌++◌, refl, ap, ◌∙◌, arith, eq-eqb}
+use Rattle.std.proofs.Common.{◌≡◌, ℕ, zero, suc, ◌+◌, ◌<◌, ◌≤◌, ◌==◌, Bool, true, false, cond, not, List, [], ◌∷◌, ◌++◌, length, get_or, take, refl, ap, subst, ◌∙◌, arith, eq-eqb}
 use Rattle.std.specs.Prelude.{All, filter}
 use Rattle.std.specs.Str.{bytes_eq}
 use Rattle.std.proofs.lemmas.Bool.Decides.{nat_tests}
@@ -8,7 +8,7 @@ use Rattle.queue_core.specs.declared.rows.Row.{Row}
 use Rattle.queue_core.specs.Rows as rows
 use Rattle.broker_store.specs.declared.mailbox.CopyMessage.{CopyMessage}
 use Rattle.broker_store.specs.Mail.{entered, left, fresh}
-use Rattle.broker_store.specs.Queues.{Standing, Named, changed, with_mail, IsLast, AreAbove}
+use Rattle.broker_store.specs.Queues.{Standing, Named, changed, with_mail, all_entered, all_left_again, IsLast, AreAbove}
 
 -- what passes stays, and the last goes
 pub filter_push : {X : Type 0} (test : X → Bool) (xs : List X) (y : X) → All (λ x. test x ≡ true) xs → test y ≡ false → filter test (xs ++ y ∷ []) ≡ xs
@@ -59,3 +59,36 @@ next_above name n m (q ∷ queues) above =
       | true ↦ All-cons (λ q. IsLast (n + 1) q.1) (q.0, with_mail (entered n m) q.1) queues (next_entered n m q.1 head) (All-weaker (λ q. IsLast n q.1) (λ q. IsLast (n + 1) q.1) (λ q last. next_at n q.1 last) queues tail)
       | false ↦ All-cons (λ q. IsLast (n + 1) q.1) q (changed name (with_mail (entered n m)) queues) (next_at n q.1 head) (next_above name n m queues tail)
     ]
+
+-- ---- the first so many queues
+
+-- one more queue gets its copy
+pub entered_more : {M : Type 0} (names : List (List ℕ)) (i n : ℕ) (d : List ℕ) (m : M) (queues : List (Named M)) → i < length names → all_entered (take (suc i) names) n m queues ≡ changed (get_or names i d) (with_mail (entered (n + i) m)) (all_entered (take i names) n m queues)
+entered_more [] i n d m queues within = absurd (omega (arith, within))
+entered_more (name ∷ names) zero n d m queues within = ap (λ number. changed name (with_mail (entered number m)) queues) (omega arith)
+entered_more (name ∷ names) (suc i) n d m queues within =
+    let rest = entered_more names i (n + 1) d m (changed name (with_mail (entered n m)) queues) (omega (arith, within)) in
+    let number : n + 1 + i ≡ n + suc i = omega arith in
+    rest ∙ ap (λ number. changed (get_or names i d) (with_mail (entered number m)) (all_entered (take i names) (n + 1) m (changed name (with_mail (entered n m)) queues))) number
+
+-- one copy less is left to withdraw
+pub left_more : {M : Type 0} (names : List (List ℕ)) (i n : ℕ) (d : List ℕ) (queues : List (Named M)) → i < length names → all_left_again (take (suc i) names) n queues ≡ all_left_again (take i names) n (changed (get_or names i d) (with_mail (left (n + i))) queues)
+left_more [] i n d queues within = absurd (omega (arith, within))
+left_more (name ∷ names) zero n d queues within = ap (λ number. changed name (with_mail (left number)) queues) (omega arith)
+left_more (name ∷ names) (suc i) n d queues within =
+    let rest = left_more names i (n + 1) d queues (omega (arith, within)) in
+    let number : n + 1 + i ≡ n + suc i = omega arith in
+    ap (changed name (with_mail (left n))) (rest ∙ ap (λ number. all_left_again (take i names) (n + 1) (changed (get_or names i d) (with_mail (left number)) queues)) number)
+
+-- the next number is above what is there then
+pub above_more : {M : Type 0} (names : List (List ℕ)) (i n : ℕ) (m : M) (queues : List (Named M)) → i ≤ length names → AreAbove n queues → AreAbove (n + i) (all_entered (take i names) n m queues)
+above_more names zero n m queues within above = subst (λ number. AreAbove number queues) (omega arith) above
+above_more [] (suc i) n m queues within above = absurd (omega (arith, within))
+above_more (name ∷ names) (suc i) n m queues within above =
+    subst (λ number. AreAbove number (all_entered (take i names) (n + 1) m (changed name (with_mail (entered n m)) queues))) (omega arith) (above_more names i (n + 1) m (changed name (with_mail (entered n m)) queues) (omega (arith, within)) (next_above name n m queues above))
+
+-- all that entered leaves again
+pub undone_all : {M : Type 0} (names : List (List ℕ)) (n : ℕ) (m : M) (queues : List (Named M)) → AreAbove n queues → all_left_again names n (all_entered names n m queues) ≡ queues
+undone_all [] n m queues above = refl
+undone_all (name ∷ names) n m queues above =
+    ap (changed name (with_mail (left n))) (undone_all names (n + 1) m (changed name (with_mail (entered n m)) queues) (next_above name n m queues above)) ∙ undone name n m queues above

@@ -59,14 +59,6 @@ all_at P [] i v all at = absurd (true≢false (sym (ap is_some at)))
 all_at P (e ∷ es) zero v all at = subst P (same_some at) (All-head (λ q. P q.1) (string_bytes e.0, e.1) (named es) all)
 all_at P (e ∷ es) (suc i) v all at = all_at P es i v (All-tail (λ q. P q.1) (string_bytes e.0, e.1) (named es) all) at
 
-pub on_ok : {A F : Type 0} {P Q : Type 0} (r : Result A F) → (P → Q) → OnOk r P → OnOk r Q
-on_ok (Ok a) f p = f p
-on_ok (Err e) f p = p
-
-pub on_err : {A F : Type 0} {P Q : Type 0} (r : Result A F) → (P → Q) → OnErr r P → OnErr r Q
-on_err (Ok a) f p = p
-on_err (Err e) f p = f p
-
 pub always_err : {A F : Type 0} {P : Type 0} (r : Result A F) → P → OnErr r P
 always_err (Ok a) p = tt
 always_err (Err e) p = p
@@ -78,26 +70,6 @@ if_some None f p = p
 pub if_none : {A : Type 0} {P Q : Type 0} (r : Option A) → (P → Q) → IfNone r P → IfNone r Q
 if_none (Some a) f p = p
 if_none None f p = f p
-
-not_some : {A : Type 0} (r : Option A) → false ≡ is_some r → r ≡ None
-not_some None e = refl
-not_some (Some a) e = absurd (false≢true e)
-
--- there is no queue of that name
-pub absent : {Z : Type 0} (name : List ℕ) (es : Entries Z) (queues : List (Named ℕ)) → named es ≡ queues → false ≡ is_some (lookup (is_key name) es) → queue_of name queues ≡ None
-absent name es queues view none = ap (queue_of name) (sym view) ∙ lookup_named name es ∙ not_some (lookup (is_key name) es) none
-
--- the queue of that name is at that place
-pub present : {Z : Type 0} (name : List ℕ) (es : Entries Z) (queues : List (Named ℕ)) (i : ℕ) (v : Standing ℕ) → named es ≡ queues → slice_get (values_of es) i ≡ lookup (is_key name) es → slice_get (values_of es) i ≡ Some v → queue_of name queues ≡ Some v
-present name es queues i v view found at = ap (queue_of name) (sym view) ∙ lookup_named name es ∙ sym found ∙ at
-
--- a write there changes it
-pub written : {Z : Type 0} (name : List ℕ) (change : Standing ℕ → Standing ℕ) (es : Entries Z) (queues : List (Named ℕ)) (i : ℕ) (v w : Standing ℕ) → named es ≡ queues → Some i ≡ position (is_key name) (keys_of es) → slice_get (values_of es) i ≡ Some v → w ≡ change v → named (set_value_at es i w) ≡ changed name change queues
-written name change es queues i v w view place at is = changed_at name change es i v w place at is ∙ ap (changed name change) view
-
--- a write of what stood there changes nothing
-pub rewritten : {Z : Type 0} (es : Entries Z) (queues : List (Named ℕ)) (i : ℕ) (v w : Standing ℕ) → named es ≡ queues → slice_get (values_of es) i ≡ Some v → w ≡ v → named (set_value_at es i w) ≡ queues
-rewritten es queues i v w view at is = ap named (set_same es i v w at is) ∙ view
 
 abbrev list : {Z : Type 0} → Entries Z → Entries Z
 list es = es

@@ -8,7 +8,7 @@ use Rattle.queue_core.specs.declared.rows.Row.{Row}
 use Rattle.queue_core.specs.Rows as rows
 use Rattle.broker_store.specs.declared.standing.StandingQueue.{StandingQueue}
 use Rattle.broker_store.specs.declared.mailbox.CopyMessage.{CopyMessage}
-use Rattle.broker_store.specs.Mail.{Mail, empty, entered, first_copy, is_held_at}
+use Rattle.broker_store.specs.Mail.{Mail, empty, entered, left, first_copy, is_held_at}
 
 -- a queue that was declared, whose copies carry these
 abbrev pub Standing : Type 0 → Type 0
@@ -82,6 +82,11 @@ is_held_in client number queues = list_any (λ q. is_held_at client number q.1.m
 abbrev pub all_entered : {M : Type 0} → List (List ℕ) → ℕ → M → List (Named M) → List (Named M)
 all_entered [] number m queues = queues
 all_entered (name ∷ names) number m queues = all_entered names (number + 1) m (changed name (with_mail (entered number m)) queues)
+
+-- what entered leaves again, the last first (AMQP 0-9-1, 3.1.3)
+abbrev pub all_left_again : {M : Type 0} → List (List ℕ) → ℕ → List (Named M) → List (Named M)
+all_left_again [] number queues = queues
+all_left_again (name ∷ names) number queues = changed name (with_mail (left number)) (all_left_again names (number + 1) queues)
 
 -- the connection has the queue to itself (AMQP 0-9-1, queue.declare: exclusive)
 abbrev pub is_owned : {M : Type 0} → ℕ → Named M → Bool

@@ -10,7 +10,7 @@ ghost use Rattle.queue_core.specs.Rows.{is_ready};
 use crate::account::Account;
 use amqp_props::Text;
 use confirm_core::Ledger;
-use queue_core::{CopyNo, Hold, Row};
+use queue_core::{CopyNo, Hold, Queue};
 use std::alloc::{AllocError, Global};
 use std::marker::Model;
 
@@ -83,17 +83,17 @@ impl Confirms {
     }
 
     /// The copies of a queue left it.
-    pub fn rows_left(&mut self, rows: &[Row])
-        ensures { self.new ≡ all_left (map (λ row. row.copy) rows.now) self.old }
+    pub fn rows_left(&mut self, queue: &Queue)
+        ensures { self.new ≡ all_left (map (λ row. row.copy) queue.now) self.old }
     {
-        leave_all(&mut self.accounts, rows);
+        leave_all(&mut self.accounts, queue);
     }
 
     /// The ready copies of a queue left it.
-    pub fn ready_left(&mut self, rows: &[Row])
-        ensures { self.new ≡ all_left (map (λ row. row.copy) (filter is_ready rows.now)) self.old }
+    pub fn ready_left(&mut self, queue: &Queue)
+        ensures { self.new ≡ all_left (map (λ row. row.copy) (filter is_ready queue.now)) self.old }
     {
-        leave_ready(&mut self.accounts, rows);
+        leave_ready(&mut self.accounts, queue);
     }
 
     /// Whether the session awaits any confirm.
@@ -121,13 +121,6 @@ impl Confirms {
     {
         answer(&mut self.accounts, link, session, number);
     }
-}
-
-/// Whether nobody holds the copy.
-fn is_ready(row: &Row) -> bool
-    ensures { result ≡ is_ready row.now }
-{
-    row.hold == Hold::Ready
 }
 
 /// The session's account.
@@ -234,21 +227,21 @@ fn leave(accounts: &mut Vec<Account>, copy: CopyNo)
 }
 
 /// No publication waits for these copies any more.
-fn leave_all(accounts: &mut Vec<Account>, rows: &[Row])
-    ensures { accounts.new.items ≡ all_left (map (λ row. row.copy) rows.now) accounts.old.items }
+fn leave_all(accounts: &mut Vec<Account>, queue: &Queue)
+    ensures { accounts.new.items ≡ all_left (map (λ row. row.copy) queue.now) accounts.old.items }
 {
-    for row in rows {
-        leave(accounts, row.copy);
+    for (copy, _) in queue.iter() {
+        leave(accounts, *copy);
     }
 }
 
 /// No publication waits for these copies any more, as far as they are ready.
-fn leave_ready(accounts: &mut Vec<Account>, rows: &[Row])
-    ensures { accounts.new.items ≡ all_left (map (λ row. row.copy) (filter is_ready rows.now)) accounts.old.items }
+fn leave_ready(accounts: &mut Vec<Account>, queue: &Queue)
+    ensures { accounts.new.items ≡ all_left (map (λ row. row.copy) (filter is_ready queue.now)) accounts.old.items }
 {
-    for row in rows {
-        if is_ready(row) {
-            leave(accounts, row.copy);
+    for (copy, hold) in queue.iter() {
+        if *hold == Hold::Ready {
+            leave(accounts, *copy);
         }
     }
 }

@@ -7,7 +7,7 @@ ghost use Rattle.broker_store.specs.Mail.{empty, entered, fresh, handed, given, 
 ghost use Rattle.broker_store.specs.Messages.{Covers, Follows};
 
 use crate::messages::{Messages, free_all, free_numbered, free_unheld};
-use queue_core::{CopyNo, Holder, Queue, Row};
+use queue_core::{CopyNo, Holder, Queue};
 use std::alloc::{AllocError, Global};
 use std::marker::Model;
 
@@ -88,11 +88,11 @@ impl Mailbox {
         }
     }
 
-    /// The copies that are there, by rising number.
-    pub fn rows(&self) -> &[Row]
+    /// The queue of the copies, without what they carry.
+    pub fn queue(&self) -> &Queue
         ensures { result.now ≡ self.now.rows }
     {
-        self.queue.rows()
+        &self.queue
     }
 
     /// Lets a copy with its message's key enter at the tail.

@@ -1,13 +1,13 @@
 //! The queues of a virtual host under their names, with the messages of their copies.
 
-ghost use Rattle.std.specs.Prelude.{◌≡◌, ◌==◌, ◌+◌, ◌<◌, ◌≤◌, ◌^◌, ◌&&◌, [], ◌∷◌, ◌++◌, None, if◌then◌else◌, false, is_some, not, map, filter, length, IfSome, IfNone, IfOk, OnOk, OnErr, string_bytes};
+ghost use Rattle.std.specs.Prelude.{◌≡◌, ◌==◌, ◌+◌, ◌<◌, ◌≤◌, ◌^◌, ◌&&◌, [], ◌∷◌, ◌++◌, None, if◌then◌else◌, false, is_some, not, map, filter, length, take, IfSome, IfNone, IfOk, OnOk, OnErr, string_bytes};
 ghost use Rattle.std.specs.List.{list_any};
 ghost use Rattle.std.specs.Option.{option_copied, option_map, option_map_or};
 ghost use Rattle.std.specs.Str.{bytes_eq};
 ghost use Rattle.indexmap.specs.IndexMap.{values};
 ghost use Rattle.broker_store.specs.Mail.{empty, entered, given, left, purged, swept, is_held_at as is_held_by_client};
 ghost use Rattle.broker_store.specs.Messages.{IsCounted, AreMore, Remains, shown};
-ghost use Rattle.broker_store.specs.Queues.{all_entered, named, bare_queue, emptied, queue_of, changed, with_mail, first_in, ready_in, ready_count, AreAbove, all_changed, is_held_in, others, owned_names, StandInTurn};
+ghost use Rattle.broker_store.specs.Queues.{all_entered, all_left_again, named, bare_queue, emptied, queue_of, changed, with_mail, first_in, ready_in, ready_count, AreAbove, all_changed, is_held_in, others, owned_names, StandInTurn};
 
 use crate::mailbox::{CopyMessage, Mailbox, Sweep};
 use crate::messages::Messages;
@@ -255,16 +255,34 @@ fn enter_each(
     ensures few { IfOk result (λ copies. copies ≤ length names.now) }
     ensures err { OnErr result (named table.new.entries ≡ named table.old.entries) }
 {
-    let Some((name, rest)) = names.split_first() else {
-        return Ok(0);
-    };
-    let copies = enter(table, name.as_str(), number, key)?;
-    match enter_each(table, rest, number + 1, key) {
-        Ok(more) => Ok(copies + more),
-        Err(e) => {
-            withdraw(table, name.as_str(), number);
-            Err(e)
+    let mut copies = 0;
+    for place in 0..names.len() {
+        match enter(table, names[place].as_str(), number + place as u64, key) {
+            Ok(entered) => copies += entered,
+            Err(e) => {
+                withdraw_each(table, names, number, place);
+                return Err(e);
+            }
         }
+    }
+    Ok(copies)
+}
+
+/// Removes the copies from the first so many of the queues, numbered in their order, before their message is kept.
+fn withdraw_each(
+    table: &mut IndexMap<String, StandingQueue<Mailbox>>,
+    names: &[Text],
+    number: CopyNo,
+    count: usize,
+)
+    requires within { count ≤ length names.now }
+    requires fits { number + length names.now < 2 ^ 64 }
+    ensures { named table.new.entries ≡ all_left_again (take count names.now) number (named table.old.entries) }
+{
+    let mut left = count;
+    while left > 0 {
+        left -= 1;
+        withdraw(table, names[left].as_str(), number + left as u64);
     }
 }
 

@@ -114,10 +114,14 @@ pub fn tell(alloc: Global, host: &mut Host, entry: &Entry) -> Result<(), AllocEr
         }
         Entry::Delivered { copy, no_ack, .. } if *no_ack => host.confirms.left(*copy),
         Entry::Purged { place, queue } if is_at(host, place) => {
-            host.confirms.ready_left(host.vhost.rows(queue.as_str()));
+            if let Some(queue) = host.vhost.queue_rows(queue.as_str()) {
+                host.confirms.ready_left(queue);
+            }
         }
         Entry::GoneQueue { place, queue } if is_at(host, place) => {
-            host.confirms.rows_left(host.vhost.rows(queue.as_str()));
+            if let Some(queue) = host.vhost.queue_rows(queue.as_str()) {
+                host.confirms.rows_left(queue);
+            }
         }
         Entry::Confirmed {
             link,

@@ -1,7 +1,7 @@
 //! A virtual host: what stands in it, and the calls that read it.
 
-ghost use Rattle.std.specs.Prelude.{◌≡◌, IfOk};
-ghost use Rattle.std.specs.Option.{option_map, option_and_then};
+ghost use Rattle.std.specs.Prelude.{◌≡◌, [], IfOk};
+ghost use Rattle.std.specs.Option.{is_some, option_map, option_map_or, option_and_then};
 ghost use Rattle.route_core.specs.Bindings.{has_binding as is_bound};
 ghost use Rattle.broker_store.specs.Queues.{queue_of, rows_of, ready_in, ready_count, copy_count};
 ghost use Rattle.mini_broker.specs.Deliver.{held_count as count_of_held};
@@ -13,7 +13,7 @@ use crate::deliver::held_count;
 use amqp_props::QueueOptions;
 use broker_store::{Clients, Consumer, Exchanges, Queues};
 use client_rules::{Client, ExchangeShape};
-use queue_core::{CopyNo, Holder, Row};
+use queue_core::{CopyNo, Holder, Queue};
 use route_core::{Binding, Router};
 use std::alloc::{AllocError, Global};
 use std::marker::Model;
@@ -139,13 +139,14 @@ impl Vhost {
         }
     }
 
-    /// The copies that are in the queue, by rising number; none where there is no queue of that name.
-    pub fn rows(&self, name: &str) -> &[Row]
-        ensures { result.now ≡ rows_of name.now self.now.queues }
+    /// The copies that are in the queue; None exactly where there is no queue of that name.
+    pub fn queue_rows(&self, name: &str) -> Option<&Queue>
+        ensures there { is_some result ≡ is_some (queue_of name.now self.now.queues) }
+        ensures rows { option_map_or (λ queue. queue.now) result [] ≡ rows_of name.now self.now.queues }
     {
         match self.queues.find(name) {
-            Some(queue) => queue.mail.rows(),
-            None => &[],
+            Some(queue) => Some(queue.mail.queue()),
+            None => None,
         }
     }
 

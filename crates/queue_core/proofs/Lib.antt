@@ -1,1 +1,3 @@
+mod EntryLemmas
 mod RowLemmas
+mod TallyLemmas

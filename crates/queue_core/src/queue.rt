@@ -1,26 +1,34 @@
-ghost use Rattle.std.specs.Prelude.{◌≡◌, ◌==◌, ◌≤◌, ◌<◌, ◌↔◌, [], ◌∷◌, ◌++◌, filter, map, find, count_by, length, IsNone, IfSome, IfNone, OnOk, OnErr};
-ghost use Rattle.queue_core.specs.Rows.{Ascends, IsAbove, IsLeastReady, with_hold, is_ready, is_held, entered, first_ready, handed, released, released_all, released_client, is_held_by, without, all_stored, has, has_held, holder_of, has_stored, copy_at};
+ghost use Rattle.std.specs.Prelude.{◌≡◌, ◌==◌, ◌≤◌, ◌↔◌, [], ◌∷◌, ◌++◌, Some, filter, map, count_by, length, min, nat_eq, if◌then◌else◌, IsNone, IfSome, IfNone, OnOk, OnErr};
+ghost use Rattle.std.specs.Option.{option_eq, option_map_or};
+ghost use Rattle.queue_core.specs.Rows.{Ascends, IsAbove, IsLeastReady, is_ready, is_held, entered, first_ready, handed, released, released_all, released_client, is_held_by, without, all_stored, has, has_held, holder_of, has_stored, copy_at};
+ghost use Rattle.queue_core.specs.Copies.{rows_from};
 
-use crate::rows::{CopyNo, Hold, Holder, Row};
+use crate::copies::Copies;
+use crate::rows::{CopyNo, Hold, Holder};
+use crate::tally::Tally;
 use std::alloc::{AllocError, Global};
+use std::collections::btree_map::Iter;
 use std::marker::Model;
 
 /// The copies of one queue, by rising number.
 #[derive(Drop)]
 pub struct Queue {
-    rows: Vec<Row>,
+    copies: Copies,
+    /// The least ready copy.
+    first: Option<CopyNo>,
+    tally: Tally,
 }
 
 impl Model for Queue {
     ghost use Rattle.std.specs.Prelude.{List};
     ghost use Rattle.queue_core.specs.declared.rows.Row.{Row};
-    ghost use Rattle.queue_core.specs.Rows.{Ascends};
+    ghost use Rattle.queue_core.specs.Copies.{AgreesWith};
 
     ghost Value = { List Row };
 
-    ghost view = { λ q. q.rows.items };
+    ghost view = { λ q. q.copies };
 
-    ghost invariant = { λ q. Ascends q.rows.items };
+    ghost invariant = { λ q. AgreesWith q.copies q.first q.tally };
 }
 
 impl Queue {
@@ -29,15 +37,17 @@ impl Queue {
         ensures { result ≡ [] }
     {
         Queue {
-            rows: Vec::new(alloc),
+            copies: Copies::new(alloc),
+            first: None,
+            tally: Tally::new(alloc),
         }
     }
 
-    /// The copies that are there, by rising number.
-    pub fn rows(&self) -> &[Row]
-        ensures { result.now ≡ self.now }
+    /// The copies that are there and their holds, by rising number.
+    pub fn iter(&self) -> Iter<'_, CopyNo, Hold>
+        ensures { result ≡ map (λ row. (row.copy, row.hold)) self.now }
     {
-        self.rows.as_slice()
+        self.copies.iter()
     }
 
     /// Lets a copy enter at the tail, ready and not stored.
@@ -50,11 +60,10 @@ impl Queue {
         ensures ok { OnOk result (self.new ≡ self.old ++ entered copy ∷ []) }
         ensures err { OnErr result (self.new ≡ self.old) }
     {
-        self.rows.push(Row {
-            copy,
-            hold: Hold::Ready,
-            stored: false,
-        })?;
+        self.tally.reserve(self.copies.count())?;
+        self.copies.enter(copy)?;
+        self.first = self.first.or(Some(copy));
+        self.tally.put(Hold::Ready);
         Ok(())
     }
 
@@ -65,8 +74,8 @@ impl Queue {
         ensures held { IfSome result (λ copy. self.new ≡ handed copy holder self.old) }
         ensures none { IfNone result (self.new ≡ self.old) }
     {
-        let copy = self.first_ready()?;
-        set_hold(&mut self.rows, copy, Hold::Held(holder));
+        let copy = self.first?;
+        self.hand_copy(copy, holder);
         Some(copy)
     }
 
@@ -74,8 +83,12 @@ impl Queue {
     pub fn hand_copy(&mut self, copy: CopyNo, holder: Holder)
         ensures { self.new ≡ handed copy holder self.old }
     {
-        let held = Hold::Held(holder);
-        set_hold(&mut self.rows, copy, held);
+        if let Some(hold) = self.copies.hold(copy) {
+            self.tally.take(hold);
+            self.copies.set_hold(copy, Hold::Held(holder));
+            self.tally.put(Hold::Held(holder));
+            self.first = first_left(self.first, &self.copies, copy);
+        }
     }
 
     /// Removes the copy; false exactly where it isn't there.
@@ -83,9 +96,13 @@ impl Queue {
         ensures there { result ≡ has copy self.old }
         ensures left { self.new ≡ without copy self.old }
     {
-        let there = self.rows.iter().any(|row| row.copy == copy);
-        remove(&mut self.rows, copy);
-        there
+        let Some(hold) = self.copies.hold(copy) else {
+            return false;
+        };
+        self.tally.take(hold);
+        self.copies.remove(copy);
+        self.first = first_left(self.first, &self.copies, copy);
+        true
     }
 
     /// Makes the held copy ready again at its place; false exactly where it isn't held.
@@ -93,26 +110,32 @@ impl Queue {
         ensures held { result ≡ has_held copy self.old }
         ensures ready { self.new ≡ released copy self.old }
     {
-        let held = self
-            .rows
-            .iter()
-            .any(|row| row.copy == copy && row.hold != Hold::Ready);
-        set_hold(&mut self.rows, copy, Hold::Ready);
-        held
+        let Some(holder) = self.holder(copy) else {
+            return false;
+        };
+        self.tally.take(Hold::Held(holder));
+        self.copies.set_hold(copy, Hold::Ready);
+        self.tally.put(Hold::Ready);
+        self.first = lesser(self.first, copy);
+        true
     }
 
     /// Makes each copy ready again that the holder holds, at its place.
     pub fn release_all(&mut self, holder: Holder)
         ensures { self.new ≡ released_all holder self.old }
     {
-        free_all(&mut self.rows, holder);
+        self.tally.free_all(holder);
+        self.copies.free_all(holder);
+        self.first = self.copies.first_from(0);
     }
 
     /// Makes each copy ready again that a consumer of the client holds, at its place.
     pub fn release_client(&mut self, client: u32)
         ensures { self.new ≡ released_client client self.old }
     {
-        free_client(&mut self.rows, client);
+        self.tally.free_client(client);
+        self.copies.free_client(client);
+        self.first = self.copies.first_from(0);
     }
 
     /// Removes each ready copy, and gives how many there were.
@@ -120,8 +143,10 @@ impl Queue {
         ensures purged { result ≡ count_by is_ready self.old }
         ensures held { self.new ≡ filter is_held self.old }
     {
-        let purged = self.ready();
-        remove_ready(&mut self.rows);
+        let purged = self.tally.ready();
+        self.tally.drop_ready();
+        self.copies.remove_ready();
+        self.first = None;
         purged
     }
 
@@ -129,35 +154,28 @@ impl Queue {
     pub fn first_ready(&self) -> Option<CopyNo>
         ensures { result ≡ first_ready self.now }
     {
-        let row = self.rows.iter().find(|row| row.hold == Hold::Ready)?;
-        Some(row.copy)
+        self.first
     }
 
     /// The number of ready copies.
     pub fn ready(&self) -> u64
         ensures { result ≡ count_by is_ready self.now }
     {
-        self.rows
-            .iter()
-            .filter(|row| row.hold == Hold::Ready)
-            .count() as u64
+        self.tally.ready()
     }
 
     /// The number of copies that the holder holds.
     pub fn held_by(&self, holder: Holder) -> u64
         ensures { result ≡ count_by (is_held_by holder) self.now }
     {
-        self.rows
-            .iter()
-            .filter(|row| row.hold == Hold::Held(holder))
-            .count() as u64
+        self.tally.held(holder)
     }
 
     /// The number of copies, ready or held.
     pub fn count(&self) -> u64
         ensures { result ≡ length self.now }
     {
-        self.rows.len() as u64
+        self.copies.count() as u64
     }
 
     /// The copy at a place, counted from 0 by rising number; None exactly past the end.
@@ -166,90 +184,48 @@ impl Queue {
         ensures end { IsNone result ↔ (length self.now ≤ place) }
         ensures rising { Ascends self.now }
     {
-        let row = self.rows.get(place)?;
-        Some(row.copy)
+        self.copies.at(place)
     }
 
     /// Who holds the copy; None exactly where it isn't there or is ready.
     pub fn holder(&self, copy: CopyNo) -> Option<Holder>
         ensures { result ≡ holder_of copy self.now }
     {
-        row_of(&self.rows, copy)?.hold.holder()
+        self.copies.hold(copy)?.holder()
     }
 
     /// Whether a flush came after the copy entered; false where it isn't there.
     pub fn is_stored(&self, copy: CopyNo) -> bool
         ensures { result ≡ has_stored copy self.now }
     {
-        self.rows.iter().any(|row| row.copy == copy && row.stored)
+        self.copies.is_stored(copy)
     }
 
     /// Marks each copy that is in the queue as stored.
     pub fn mark_stored(&mut self)
         ensures { self.new ≡ all_stored self.old }
     {
-        store_all(&mut self.rows);
+        self.copies.mark_stored();
     }
 }
 
-/// The row of the copy, if it is there.
-fn row_of(rows: &[Row], copy: CopyNo) -> Option<Row>
-    ensures { result ≡ find (λ row. row.copy == copy) rows.now }
+/// The first ready copy once this copy isn't ready any more.
+fn first_left(first: Option<CopyNo>, copies: &Copies, copy: CopyNo) -> Option<CopyNo>
+    ensures { result ≡ (if option_eq nat_eq first (Some copy) then first_ready (rows_from copy copies.now) else first) }
 {
-    for row in rows {
-        if row.copy == copy {
-            return Some(*row);
-        }
-    }
-    None
-}
-
-/// Sets who holds the copy.
-fn set_hold(rows: &mut Vec<Row>, copy: CopyNo, hold: Hold)
-    ensures { rows.new.items ≡ map (with_hold copy hold) rows.old.items }
-{
-    for row in rows.iter_mut() {
-        row.hold = if row.copy == copy { hold } else { row.hold };
+    if first == Some(copy) {
+        copies.first_from(copy)
+    } else {
+        first
     }
 }
 
-/// Frees what the holder holds.
-fn free_all(rows: &mut Vec<Row>, holder: Holder)
-    ensures { rows.new.items ≡ released_all holder rows.old.items }
+/// The lesser of the first ready copy and one that is ready too.
+fn lesser(first: Option<CopyNo>, copy: CopyNo) -> Option<CopyNo>
+    ensures { result ≡ Some (option_map_or (min copy) first copy) }
 {
-    for row in rows.iter_mut() {
-        row.hold = row.hold.freed(holder);
+    match first {
+        Some(first) => Some(copy.min(first)),
+        None => Some(copy),
     }
-}
-
-/// Frees what the consumers of a client hold.
-fn free_client(rows: &mut Vec<Row>, client: u32)
-    ensures { rows.new.items ≡ released_client client rows.old.items }
-{
-    for row in rows.iter_mut() {
-        row.hold = row.hold.freed_of(client);
-    }
-}
-
-/// Marks each row as stored.
-fn store_all(rows: &mut Vec<Row>)
-    ensures { rows.new.items ≡ all_stored rows.old.items }
-{
-    for row in rows.iter_mut() {
-        row.stored = true;
-    }
-}
-
-/// Removes the copy's row.
-fn remove(rows: &mut Vec<Row>, copy: CopyNo)
-    ensures { rows.new.items ≡ without copy rows.old.items }
-{
-    rows.retain(|row| row.copy != copy);
-}
-
-/// Removes each row that is ready.
-fn remove_ready(rows: &mut Vec<Row>)
-    ensures { rows.new.items ≡ filter is_held rows.old.items }
-{
-    rows.retain(|row| row.hold != Hold::Ready);
 }

@@ -1,9 +1,7 @@
-use Rattle.std.proofs.Common.{refl, sym}
-use Rattle.queue_core.proofs.RowLemmas.{Ascends-map, first_ready-least}
+use Rattle.std.proofs.Common.{sym, subst, ◌∙◌}
+use Rattle.queue_core.specs.Rows.{IsLeastReady}
+use Rattle.queue_core.proofs.RowLemmas.{first_ready-least}
 use Rattle.queue_core.proofs.queue.Queue.hand.Goals as goal
 
-pub invariant_of-self : goal.invariant_of-self
-invariant_of-self c = rw c.set_hold.ensures (Ascends-map _ (λ _. refl) _ c.self.invariant)
-
 pub returns-clause-least : goal.returns-clause-least
-returns-clause-least c = first_ready-least _ _ (rw c.self.view_is at c.self.invariant) (sym c.in_ok-copy.ensures)
+returns-clause-least c = subst (λ rows. IsLeastReady rows c.in_ok-copy.copy) c.self.view_is (first_ready-least c.self.inside.copies c.in_ok-copy.copy c.self.invariant.rising (sym c.self.invariant.first ∙ c.in_ok-copy.was))

@@ -1,6 +1,0 @@
-use Rattle.std.proofs.Common.{◌≡◌, ◌++◌, take, drop}
-use Rattle.queue_core.specs.Rows.{released_all}
-use Rattle.queue_core.proofs.queue.free_all.Given as goal
-
-abbrev pub invariant-loop-row : goal.invariant-loop-row
-invariant-loop-row l = l.row-items ≡ released_all l.holder (take l.row-index l.initial.row-items) ++ drop l.row-index l.initial.row-items
