@@ -56,7 +56,8 @@ fn is_bad_copy(word: &[u8]) -> bool
     copy_of(word).is_none()
 }
 
-fn has_bad_prefetch(words: &[Octets]) -> bool
+/// Whether a prefetch count among the options is none.
+pub(crate) fn has_bad_prefetch(words: &[Octets]) -> bool
     ensures { result ≡ list_any is_bad_prefetch words.now }
 {
     words.iter().any(|word| is_bad_prefetch(word.as_slice()))

@@ -25,7 +25,8 @@ pub enum Statement {
     Event(Event),
 }
 
-fn link_event(action: LinkAction, link: Text) -> Event
+/// What a link does, as an event.
+pub(crate) fn link_event(action: LinkAction, link: Text) -> Event
     ensures { result ≡ link_event action link }
 {
     match action {
@@ -234,7 +235,8 @@ fn get_event(alloc: Global, words: &[Octets]) -> Result<Event, AllocError>
     })
 }
 
-fn settlement_event(settlement: Settlement, place: Place, client: u16, copy: u64) -> Event
+/// What a client does with a copy, as an event.
+pub(crate) fn settlement_event(settlement: Settlement, place: Place, client: u16, copy: u64) -> Event
     ensures { result ≡ settlement_event settlement place client copy }
 {
     match settlement {
