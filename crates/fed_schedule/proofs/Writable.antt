@@ -35,7 +35,7 @@ use Rattle.fed_schedule.specs.Reasons.{is_late, is_bad_body, has_bad_number, has
 use Rattle.fed_schedule.specs.Statements.{client_at, queue_options_of, exchange_shape_of, declare_event, binding_at, binding_event, publish_event, shovel_event, consume_event, cancel_event, deliver_event, get_event, settle_event, purge_event, close_event, client_event, link_event, statement_of}
 use Rattle.fed_schedule.specs.Times.{head_of, line_of, is_head, is_bad_head, is_single}
 use Rattle.fed_schedule.specs.Schedule.{State, AreWritable, IsWritableStatement, are_escaped, single_reason, reason_of, form_read, unless_refused, of_form, of_line, judge}
-use Rattle.fed_schedule.proofs.Arguments.{arguments_spelled, binding_names, props_short}
+use Rattle.fed_schedule.proofs.Arguments.{arguments_spelled, binding_names, publish_names, props_short}
 use Rattle.fed_schedule.proofs.Lengths.{spaced_line}
 use Rattle.schedule_words.proofs.Lengths.{spaced_drop}
 
@@ -60,7 +60,7 @@ body-short ws valued =
 
 message-writable : (ws : List (List ℕ)) → has_bad_publish_names ws ≡ false → has_bad_message ws ≡ false → spaced_length ws ≤ MAX_SCHEDULE + 1 → IsMessage (message_of ws)
 unfolding message_of
-message-writable ws named valued few = record { short = props_short ws named few; body = body-short ws valued }
+message-writable ws named valued few = record { short = props_short ws (publish_names ws named) few; body = body-short ws valued }
 
 -- ---- other events
 

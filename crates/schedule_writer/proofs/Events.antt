@@ -41,7 +41,7 @@ use Rattle.schedule_words.specs.Values.{named_value, is_bad_argument_number, is_
 use Rattle.schedule_words.proofs.Written.{IsTextWord, is_bare, AreBare, bare_word, decimal_writes, words-back}
 use Rattle.fed_schedule.specs.Forms.{keyword_of, action_keyword_of, client_action_of, link_action_of, are_texts, is_unbuilt, is_unbuilt_declare, is_unbuilt_shovel, shovel_key, same_shovel}
 use Rattle.fed_schedule.specs.Reasons.{has_bad_number, has_bad_client_number, has_bad_names, has_bad_binding_names, has_bad_client_names, has_bad_option, has_bad_declare_option, has_bad_client_option, has_bad_value, has_bad_arguments, has_bad_publish_names, has_bad_message, is_bad_body}
-use Rattle.fed_schedule.specs.Statements.{statement_of, client_event, cancel_event, deliver_event, get_event, purge_event, close_event, settle_event, link_event, shovel_event, shovel_of, queue_options_of, exchange_shape_of, declare_event, binding_at, binding_event, publish_event, consume_event}
+use Rattle.fed_schedule.specs.Statements.{statement_of, client_event, cancel_event, deliver_event, get_event, purge_event, close_event, settle_event, link_event, shovel_event, shovel_of, queue_options_of, exchange_shape_of, declare_event, binding_at, bound_event, binding_event, publish_event, consume_event}
 use Rattle.fed_schedule.specs.Messages.{header_front, headers_of, props_of, message_of}
 use Rattle.fed_schedule.specs.Options.{without, header_words, without_prefetch, are_built_queue_options, are_exchange_options, are_consumer_options, has_option, prefetch_of, is_bad_prefetch, consumer_prefetch}
 use Rattle.fed_schedule.specs.Times.{count_of}
@@ -522,10 +522,6 @@ binding_read p c w b none to from by =
     let args = empty_is b.args none in
     rw ((name_slot b.source from).read, sort_read b.sort, (name_slot b.dest to).read, (name_slot b.key by).read)
     (λ i. record { source = b.source; sort = b.sort; dest = b.dest; key = b.key; args = args i })
-
-abbrev bound_event : BindingAction → Place → ℕ → Binding → Event
-bound_event binding.Bind p c b = event.Bind p c b
-bound_event binding.Unbind p c b = event.Unbind p c b
 
 bound_said : (r : State) (w : List ℕ) (a : BindingAction) (p : Place) (c : ℕ) (b : Binding) → is_empty_table b.args ≡ true → IsClient p c → IsName b.dest → IsName b.source → IsName b.key
     → statement_of (form.Binding a) (client_words w p c (binding_words b)) ≡ states.Event (bound_event a p c b)

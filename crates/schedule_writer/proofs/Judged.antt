@@ -13,7 +13,7 @@ use Rattle.fed_schedule.specs.Times.{is_times, is_bad_head, head_of, line_of}
 use Rattle.fed_schedule.specs.Forms.{keyword_of, are_texts, is_unbuilt, is_empty_word, is_miscounted, word_count, takes_options}
 use Rattle.fed_schedule.specs.Reasons.{is_late, has_bad_number, has_bad_names, has_bad_option, has_bad_value}
 use Rattle.fed_schedule.specs.Statements.{statement_of}
-use Rattle.fed_schedule.specs.Schedule.{State, reason_of, of_line, judge}
+use Rattle.fed_schedule.specs.Schedule.{State, reason_of, form_read, of_line, judge}
 use Rattle.schedule_writer.proofs.Joined.{AreWords, AreOnes, ones, none_empty}
 
 -- no reason refuses a line of these words, which begins with a word of this form
@@ -32,7 +32,7 @@ pub record IsGood (r : State) (k : Keyword) (ws : List (List ℕ)) : Type 0 wher
   pub values : has_bad_value k ws ≡ false
 
 pub good : (r : State) (k : Keyword) (ws : List (List ℕ)) → IsGood r k ws → judge r ws ≡ Ok (statement_of k ws)
-unfolding judge of_line reason_of head_of line_of is_bad_head
+unfolding judge of_line reason_of form_read head_of line_of is_bad_head
 good r k ws g =
     rw (g.texts, g.once, g.some, g.form, g.built, g.timely, g.counted, g.escaped, g.numbers, g.names, g.options, g.values) refl
 
