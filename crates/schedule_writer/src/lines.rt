@@ -1,5 +1,5 @@
 //! The line of an event.
-ghost use Rattle.std.specs.Prelude.{◌≡◌, ◌++◌, [], ◌∷◌, OnOk, flat_map, true, codes};
+ghost use Rattle.std.specs.Prelude.{◌≡◌, ◌++◌, [], ◌∷◌, OnOk, OnErr, flat_map, true, codes};
 ghost use Rattle.std.specs.Fmt.{decimal};
 ghost use Rattle.field_tables.specs.View.{table_view};
 ghost use Rattle.fed_journal.specs.Words.{word};
@@ -209,13 +209,9 @@ fn link_line(page: &mut Page, keyword: &str, link: &Text) -> Result<(), AllocErr
     push_fixed(page, link.as_str())
 }
 
-/// Appends the line of an event, without the end of the line. After an `Err` the page may hold a part of it.
-///
-/// # Errors
-///
-/// For want of memory.
+/// Appends the words of an event's line. After an `Err` the page may hold a part of them.
 #[tactic(auto, unfolding(crate::specs::Lines::event_words, crate::specs::Lines::event_line))]
-pub fn write_line(alloc: Global, event: &Event, page: &mut Page) -> Result<(), AllocError>
+fn push_line(alloc: Global, event: &Event, page: &mut Page) -> Result<(), AllocError>
     requires { has_line event.now ≡ true }
     ensures { OnOk result (page.new ≡ page.old ++ event_line event.now) }
 {
@@ -299,4 +295,19 @@ pub fn write_line(alloc: Global, event: &Event, page: &mut Page) -> Result<(), A
         Event::Settle { link } => link_line(page, "settle", link),
         Event::Show => page.push("show"),
     }
+}
+
+/// Appends the line of an event, without the end of the line.
+///
+/// # Errors
+///
+/// For want of memory; the page is then as it was.
+pub fn write_line(alloc: Global, event: &Event, page: &mut Page) -> Result<(), AllocError>
+    requires { has_line event.now ≡ true }
+    ensures ok { OnOk result (page.new ≡ page.old ++ event_line event.now) }
+    ensures err { OnErr result (page.new ≡ page.old) }
+{
+    let mut line = Page::new(alloc);
+    push_line(alloc, event, &mut line)?;
+    page.push(line.as_str())
 }
