@@ -271,16 +271,19 @@ unfolding headers_of
 headers-spelled true ws is named few = rw is tt
 headers-spelled false ws is named few = rw is (arguments_spelled header_front ws named few)
 
+pub publish_names : (ws : List (List ℕ)) → has_bad_publish_names ws ≡ false → list_any (is_bad_argument_name header_front) (drop 6 ws) ≡ false
+unfolding has_bad_publish_names
+publish_names ws named = (or_parts _ (list_any (is_bad_argument_name header_front) (drop 6 ws)) named).1
+
 -- the properties of a message whose names are not too long have a spelling
-pub props_short : (ws : List (List ℕ)) → has_bad_publish_names ws ≡ false → spaced_length ws ≤ MAX_SCHEDULE + 1 → AreShort (props_of ws)
-unfolding has_bad_publish_names props_of
+pub props_short : (ws : List (List ℕ)) → list_any (is_bad_argument_name header_front) (drop 6 ws) ≡ false → spaced_length ws ≤ MAX_SCHEDULE + 1 → AreShort (props_of ws)
+unfolding props_of
 props_short ws named few =
     let hs = header_words (drop 6 ws) in
-    let names = or_parts _ (list_any (is_bad_argument_name header_front) (drop 6 ws)) named in
     record {
       content_type = tt;
       content_encoding = tt;
-      headers = headers-spelled (eqb (length hs) 0) hs refl (fewer _ (drop 6 ws) names.1) (omega (arith, few, spaced_header (drop 6 ws), spaced_drop 6 ws));
+      headers = headers-spelled (eqb (length hs) 0) hs refl (fewer _ (drop 6 ws) named) (omega (arith, few, spaced_header (drop 6 ws), spaced_drop 6 ws));
       correlation_id = tt;
       reply_to = tt;
       expiration = tt;

@@ -1,5 +1,5 @@
 -- What a line that is accepted carries has a spelling on the wire.
-use Rattle.std.proofs.Common.{◌≡◌, ℕ, ◌+◌, ◌≤◌, Bool, true, false, cond, List, [], ◌++◌, length, drop, Option, Some, None, Result, Err, refl, arith}
+use Rattle.std.proofs.Common.{◌≡◌, ℕ, ◌+◌, ◌≤◌, Bool, true, false, cond, List, [], ◌++◌, length, drop, Option, Some, None, Result, Ok, Err, refl, arith}
 use Rattle.std.specs.Prelude.{IfOk, ◌||◌, ◌&&◌, ◌==◌, not, replicate, codes}
 use Rattle.std.specs.List.{list_any}
 use Rattle.std.proofs.lemmas.List.Elements.{All-append, All-replicate}
@@ -34,8 +34,8 @@ use Rattle.fed_schedule.specs.Messages.{header_front, message_of}
 use Rattle.fed_schedule.specs.Reasons.{is_late, is_bad_body, has_bad_number, has_bad_binding_names, has_bad_publish_names, has_bad_names, has_bad_option, has_bad_message, has_bad_value}
 use Rattle.fed_schedule.specs.Statements.{client_at, queue_options_of, exchange_shape_of, declare_event, binding_at, binding_event, publish_event, shovel_event, consume_event, cancel_event, deliver_event, get_event, settle_event, purge_event, close_event, client_event, link_event, statement_of}
 use Rattle.fed_schedule.specs.Times.{head_of, line_of, is_head, is_bad_head, is_single}
-use Rattle.fed_schedule.specs.Schedule.{State, AreWritable, IsWritableStatement, are_escaped, single_reason, reason_of, unless_refused, of_form, of_line, judge}
-use Rattle.fed_schedule.proofs.Arguments.{arguments_spelled, binding_names, props_short}
+use Rattle.fed_schedule.specs.Schedule.{State, AreWritable, IsWritableStatement, are_escaped, single_reason, reason_of, form_read, unless_refused, of_form, of_line, judge}
+use Rattle.fed_schedule.proofs.Arguments.{arguments_spelled, binding_names, publish_names, props_short}
 use Rattle.fed_schedule.proofs.Lengths.{spaced_line}
 use Rattle.schedule_words.proofs.Lengths.{spaced_drop}
 
@@ -60,7 +60,7 @@ body-short ws valued =
 
 message-writable : (ws : List (List ℕ)) → has_bad_publish_names ws ≡ false → has_bad_message ws ≡ false → spaced_length ws ≤ MAX_SCHEDULE + 1 → IsMessage (message_of ws)
 unfolding message_of
-message-writable ws named valued few = record { short = props_short ws named few; body = body-short ws valued }
+message-writable ws named valued few = record { short = props_short ws (publish_names ws named) few; body = body-short ws valued }
 
 -- ---- other events
 
@@ -114,44 +114,29 @@ statement-writable form.Show ws named valued few = tt
 statement-writable (form.Client action) ws named valued few = client-writable action ws
 statement-writable (form.Link action) ws named valued few = link-writable action _
 
--- names and values of a line that no reason refuses
-record IsAccepted (k : Keyword) (ws : List (List ℕ)) : Type 0 where
-  named : has_bad_names k ws ≡ false
-  valued : has_bad_value k ws ≡ false
-
-abbrev first_reason : (u l m e n a o v : Bool) → Option LineReason
-first_reason u l m e n a o v =
-    cond u (Some why.Word) (cond l (Some why.Order) (cond m (Some why.Count) (cond e (Some why.Escape) (cond n (Some why.Number)
-    (cond a (Some why.Name) (cond o (Some why.Option) (cond v (Some why.Value) None)))))))
-
-none_applies : (u l m e n a o v : Bool) → first_reason u l m e n a o v ≡ None → (a ≡ false) × (v ≡ false)
-none_applies true l m e n a o v x = absurd cc
-none_applies false true m e n a o v x = absurd cc
-none_applies false false true e n a o v x = absurd cc
-none_applies false false false true n a o v x = absurd cc
-none_applies false false false false true a o v x = absurd cc
-none_applies false false false false false true o v x = absurd cc
-none_applies false false false false false false true v x = absurd cc
-none_applies false false false false false false false true x = absurd cc
-none_applies false false false false false false false false x = (refl, refl)
-
-accepted : (r : State) (k : Keyword) (head ws : List (List ℕ)) → reason_of r k head ws ≡ None → IsAccepted k ws
-unfolding reason_of
-accepted r k head ws e =
-    let t = none_applies (is_unbuilt r.shovels k head ws) (is_late (not (length r.events == 0)) k) (list_any is_empty_word head || is_miscounted k ws) (not (are_escaped head ws))
-    (is_bad_head head || has_bad_number k ws) (has_bad_names k ws) (has_bad_option k ws) (has_bad_value k ws) e in
-    record { named = t.0; valued = t.1 }
-
 abbrev IsGood : Result Statement LineReason → Type 0
 IsGood judged = IfOk judged IsWritableStatement
 
-unless-writable : (reason : Option LineReason) (r : State) (k : Keyword) (head ws : List (List ℕ)) → spaced_length ws ≤ MAX_SCHEDULE + 1 → reason_of r k head ws ≡ reason → IsGood (unless_refused reason (statement_of k ws))
-unless-writable None r k head ws few is = let t = accepted r k head ws is in statement-writable k ws t.named t.valued few
-unless-writable (Some reason) r k head ws few is = tt
+-- what the words of a form state, once names and values are judged
+read-writable : (n a o v : Bool) (k : Keyword) (ws : List (List ℕ)) → spaced_length ws ≤ MAX_SCHEDULE + 1 → has_bad_names k ws ≡ a → has_bad_value k ws ≡ v
+    → IsGood (cond n (Err why.Number) (cond a (Err why.Name) (cond o (Err why.Option) (cond v (Err why.Value) (Ok (statement_of k ws))))))
+read-writable true a o v k ws few named valued = tt
+read-writable false true o v k ws few named valued = tt
+read-writable false false true v k ws few named valued = tt
+read-writable false false false true k ws few named valued = tt
+read-writable false false false false k ws few named valued = statement-writable k ws named valued few
+
+pub form_writable : (k : Keyword) (ws : List (List ℕ)) → spaced_length ws ≤ MAX_SCHEDULE + 1 → IsGood (form_read k ws)
+unfolding form_read
+form_writable k ws few = read-writable (has_bad_number k ws) (has_bad_names k ws) (has_bad_option k ws) (has_bad_value k ws) k ws few refl refl
+
+unless-writable : (reason : Option LineReason) (k : Keyword) (ws : List (List ℕ)) → spaced_length ws ≤ MAX_SCHEDULE + 1 → IsGood (unless_refused reason (form_read k ws))
+unless-writable None k ws few = form_writable k ws few
+unless-writable (Some reason) k ws few = tt
 
 form-writable : (r : State) (head ws : List (List ℕ)) (k : Option Keyword) → spaced_length ws ≤ MAX_SCHEDULE + 1 → IsGood (of_form r head ws k)
 form-writable r head ws None few = tt
-form-writable r head ws (Some k) few = unless-writable (reason_of r k head ws) r k head ws few refl
+form-writable r head ws (Some k) few = unless-writable (reason_of r k head ws) k ws few
 
 if_writable : (b : Bool) (reason : LineReason) (judged : Result Statement LineReason) → IsGood judged → IsGood (cond b (Err reason) judged)
 if_writable true reason judged good = tt

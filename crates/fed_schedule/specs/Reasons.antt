@@ -1,7 +1,9 @@
 -- What makes a line's words no values of its form.
-use Rattle.std.specs.Prelude.{ℕ, List, [], Bool, false, ◌&&◌, ◌||◌, not, if◌then◌else◌, ◌==◌, nat_lt, length, drop, is_some, codes}
+use Rattle.std.specs.Prelude.{ℕ, List, [], Bool, false, ◌&&◌, ◌||◌, not, if◌then◌else◌, ◌==◌, nat_lt, length, drop, Option, Some, None, is_some, codes}
 use Rattle.std.specs.List.{list_any}
+use Rattle.field_tables.specs.Fields.{Pairs}
 use Rattle.field_tables.specs.Tables.{table_spelling}
+use Rattle.amqp_props.specs.declared.message.Message.{Message}
 use Rattle.amqp_props.specs.ContentHeader.{header_spelling}
 use Rattle.fed_journal.specs.Names.{same_text}
 use Rattle.client_rules.specs.Names.{is_reserved}
@@ -16,7 +18,7 @@ use Rattle.schedule_words.specs.Links.{is_bad_link}
 use Rattle.schedule_words.specs.Choices.{exchange_kind_of, sort_of}
 use Rattle.fed_schedule.specs.Options.{is_alone, is_bad_prefetch, are_consumer_options, are_built_queue_options, are_exchange_options, header_words}
 use Rattle.schedule_words.specs.Values.{max_header, is_no_argument, is_bad_argument_number, is_bad_argument_name, is_bad_argument_value, arguments_of}
-use Rattle.fed_schedule.specs.Messages.{header_front, props_of}
+use Rattle.fed_schedule.specs.Messages.{header_front, props_of, message_of}
 
 -- a broker's line stands after another line
 abbrev pub is_late : Bool → Keyword → Bool
@@ -138,11 +140,19 @@ max_arguments = 32768
 unfoldable pub has_bad_arguments : List (List ℕ) → Bool
 has_bad_arguments ws = list_any (is_bad_argument_value []) ws || nat_lt max_arguments (length (table_spelling (arguments_of [] ws)))
 
+-- the arguments of a binding, where they are values and not too long
+unfoldable pub arguments_within : List (List ℕ) → Option Pairs
+arguments_within ws = if has_bad_arguments ws then None else Some (arguments_of [] ws)
+
 -- the body, a value or the content header of the message is none or too long
 unfoldable pub has_bad_message : List (List ℕ) → Bool
 has_bad_message ws =
     is_bad_body (word_at ws 5) || list_any (is_bad_argument_value header_front) (header_words (drop 6 ws))
     || nat_lt max_header (length (header_spelling (length (octets_of (word_at ws 5))) (props_of ws)))
+
+-- the message of a publication, where it has values and none is too long
+unfoldable pub message_within : List (List ℕ) → Option Message
+message_within ws = if has_bad_message ws then None else Some (message_of ws)
 
 -- a value isn't one that its place takes
 unfoldable pub has_bad_value : Keyword → List (List ℕ) → Bool

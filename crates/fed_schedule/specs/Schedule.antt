@@ -70,25 +70,30 @@ single_reason head ws =
     if not (are_escaped head ws) then why.Escape else
     if is_bad_head head then why.Number else why.Times
 
--- the first reason of those that are judged once the form is known, of a line and what stands before it
+-- the first reason of those that are judged once the form is known and before what its words stand for, of a line and what stands before it
 unfoldable pub reason_of : State → Keyword → List (List ℕ) → List (List ℕ) → Option LineReason
 reason_of r k head ws =
     if is_unbuilt r.shovels k head ws then Some why.Word else
     if is_late (not (length r.events == 0)) k then Some why.Order else
     if list_any is_empty_word head || is_miscounted k ws then Some why.Count else
     if not (are_escaped head ws) then Some why.Escape else
-    if is_bad_head head || has_bad_number k ws then Some why.Number else
-    if has_bad_names k ws then Some why.Name else
-    if has_bad_option k ws then Some why.Option else
-    if has_bad_value k ws then Some why.Value else None
+    if is_bad_head head then Some why.Number else None
 
-abbrev pub unless_refused : Option LineReason → Statement → Result Statement LineReason
-unless_refused None s = Ok s
-unless_refused (Some reason) s = Err reason
+-- what the words of a form state, or the first reason of those that they give: a number, a name, an option or a value is none
+unfoldable pub form_read : Keyword → List (List ℕ) → Result Statement LineReason
+form_read k ws =
+    if has_bad_number k ws then Err why.Number else
+    if has_bad_names k ws then Err why.Name else
+    if has_bad_option k ws then Err why.Option else
+    if has_bad_value k ws then Err why.Value else Ok (statement_of k ws)
+
+abbrev pub unless_refused : Option LineReason → Result Statement LineReason → Result Statement LineReason
+unless_refused None read = read
+unless_refused (Some reason) read = Err reason
 
 abbrev pub of_form : State → List (List ℕ) → List (List ℕ) → Option Keyword → Result Statement LineReason
 of_form r head ws None = Err why.Word
-of_form r head ws (Some k) = unless_refused (reason_of r k head ws) (statement_of k ws)
+of_form r head ws (Some k) = unless_refused (reason_of r k head ws) (form_read k ws)
 
 -- what a line states, or the first reason that refuses it and what stands before it; `times` wants a line
 unfoldable pub of_line : State → List (List ℕ) → List (List ℕ) → Result Statement LineReason

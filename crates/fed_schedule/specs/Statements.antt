@@ -76,10 +76,13 @@ binding_at ws =
     binding_of (text_of (word_at ws 5)) (unwrap_or (sort_of (word_at ws 3)) sorts.Queue) (text_of (word_at ws 4))
     (text_of (word_at ws 6)) (arguments_of [] (drop 7 ws))
 
+abbrev pub bound_event : BindingAction → Place → ℕ → Binding → Event
+bound_event binding.Bind place client x = event.Bind place client x
+bound_event binding.Unbind place client x = event.Unbind place client x
+
 -- `bind P C ..`, `unbind P C ..`
 unfoldable pub binding_event : BindingAction → List (List ℕ) → Event
-binding_event binding.Bind ws = event.Bind (place_of (word_at ws 1)) (client_at ws) (binding_at ws)
-binding_event binding.Unbind ws = event.Unbind (place_of (word_at ws 1)) (client_at ws) (binding_at ws)
+binding_event action ws = bound_event action (place_of (word_at ws 1)) (client_at ws) (binding_at ws)
 
 -- `publish P C ..`
 unfoldable pub publish_event : List (List ℕ) → Event

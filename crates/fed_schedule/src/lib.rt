@@ -6,6 +6,7 @@ pub mod forms;
 pub mod keyword;
 pub mod messages;
 pub mod options;
+pub mod reading;
 pub mod reasons;
 pub mod schedule;
 pub mod script;

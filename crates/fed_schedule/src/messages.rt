@@ -1,12 +1,12 @@
 //! The message of a publication.
 ghost use Rattle.std.specs.Prelude.{◌≡◌, IfOk};
-ghost use Rattle.fed_schedule.specs.Messages.{is_persistent, headers_of, props_of, message_of};
+ghost use Rattle.fed_schedule.specs.Messages.{is_persistent, headers_of, props_of};
 
 use crate::options::header_words;
-use amqp_props::{FieldTable, Message, Octets, Properties};
+use amqp_props::{FieldTable, Octets, Properties};
 use fed_journal::message::properties;
 use schedule_words::values::arguments_of;
-use schedule_words::words::{is_word, octets_of, text_of, word_at, words_from};
+use schedule_words::words::{is_word, word_at, words_from};
 use std::alloc::{AllocError, Global};
 
 /// What a word of a header field begins with.
@@ -36,21 +36,4 @@ pub(crate) fn props_of(alloc: Global, words: &[Octets]) -> Result<Properties, Al
 {
     let headers = headers_of(alloc, header_words(words_from(words, 6)))?;
     Ok(properties(is_persistent(words), headers))
-}
-
-/// The message that the words of `publish` write.
-#[tactic(auto, unfolding(crate::specs::Messages::message_of))]
-pub(crate) fn message_of(alloc: Global, words: &[Octets]) -> Result<Message, AllocError>
-    ensures { IfOk result (λ message. message ≡ message_of words.now) }
-{
-    let exchange = text_of(alloc, word_at(words, 3))?;
-    let key = text_of(alloc, word_at(words, 4))?;
-    let props = props_of(alloc, words)?;
-    let body = octets_of(alloc, word_at(words, 5))?;
-    Ok(Message {
-        exchange,
-        key,
-        props,
-        body,
-    })
 }

@@ -8,10 +8,11 @@ ghost use Rattle.fed_schedule.specs.Schedule.{reading_of, state_of, script_read,
 use crate::copies::push_copies;
 use crate::forms::{are_texts, has_empty_word, is_miscounted, is_unbuilt, keyword_of};
 use crate::keyword::Keyword;
-use crate::reasons::{has_bad_names, has_bad_number, has_bad_option, has_bad_value, is_late};
+use crate::reading::read_form;
+use crate::reasons::is_late;
 use crate::script::{LineReason, MAX_EVENTS, MAX_SCHEDULE, ScheduleFault, Script};
 use crate::shovels::{ShovelKey, add_shovel};
-use crate::statement::{Statement, statement_of};
+use crate::statement::Statement;
 use crate::times::{count_of, head_of, is_bad_head, is_single, line_of};
 use amqp_props::{Octets, Text};
 use fed_journal::event::Event;
@@ -78,7 +79,7 @@ fn single_reason(head: &[Octets], words: &[Octets]) -> LineReason
     LineReason::Times
 }
 
-/// Why the words of a form are refused after a part of a schedule.
+/// Why the words of a form are refused after a part of a schedule, before what they stand for is read.
 #[tactic(auto, unfolding(crate::specs::Schedule::reason_of))]
 fn reason_of(
     alloc: Global,
@@ -103,17 +104,8 @@ fn reason_of(
     if !are_escaped(head, words) {
         return Ok(Some(LineReason::Escape));
     }
-    if is_bad_head(head) || has_bad_number(keyword, words) {
+    if is_bad_head(head) {
         return Ok(Some(LineReason::Number));
-    }
-    if has_bad_names(alloc, keyword, words)? {
-        return Ok(Some(LineReason::Name));
-    }
-    if has_bad_option(keyword, words) {
-        return Ok(Some(LineReason::Option));
-    }
-    if has_bad_value(alloc, keyword, words)? {
-        return Ok(Some(LineReason::Value));
     }
     Ok(None)
 }
@@ -141,7 +133,7 @@ fn of_line(
     };
     match reason_of(alloc, script, shovels, keyword, head, words)? {
         Some(reason) => Ok(Err(reason)),
-        None => Ok(Ok(statement_of(alloc, keyword, words)?)),
+        None => read_form(alloc, keyword, words),
     }
 }
 

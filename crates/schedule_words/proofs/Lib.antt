@@ -3,3 +3,4 @@ pub mod Pieces
 pub mod Spelled
 pub mod Utf8
 pub mod Views
+pub mod Written

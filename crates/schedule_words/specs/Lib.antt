@@ -1,5 +1,6 @@
 pub mod Choices
 pub mod Fields
+pub mod Laws
 pub mod Links
 pub mod Numbers
 pub mod Values

@@ -4,6 +4,7 @@
 
 pub mod choices;
 pub mod fields;
+pub mod laws;
 pub mod links;
 pub mod numbers;
 pub mod values;

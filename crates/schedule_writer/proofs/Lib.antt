@@ -1,0 +1,6 @@
+pub mod Back
+pub mod Events
+pub mod Joined
+pub mod Judged
+pub mod Links
+pub mod Slots
