@@ -23,8 +23,8 @@ use Rattle.defs_values.specs.Shovels.{exchange_refusal, fault_with, protocol_ref
 use Rattle.defs_values.specs.Upstreams.{most_prefetch, first_half, second_half, overrides_fault, upstream_fault}
 use Rattle.defs_values.specs.Values.{number_refusal}
 use Rattle.defs_lists.specs.Vhosts.{no_item, vhost_fault}
-use Rattle.defs_kept.proofs.KeptLemmas.{IsPlain, or_none, firsts, split_plain, some_plain, optional_plain, required_plain, item_keys, object_plain, inside_plain}
-use Rattle.defs_kept.proofs.KeptValues.{flag_plain, mode_plain, number_plain, name_plain, short_text_plain, filled_plain, exchange_plain, delete_plain, protocol_plain, component_plain, pattern_plain, apply_plain, priority_plain, type_plain, kind_plain, destination_plain, uris_plain, props_plain, arguments_plain, either_plain, beside_plain, source_queue_plain, target_queue_plain, own_vhost_plain}
+use Rattle.defs_kept.proofs.KeptLemmas.{IsPlain, or_none, firsts, split_plain, some_plain, optional_plain, required_plain, required_within_plain, item_keys, object_plain, inside_plain}
+use Rattle.defs_kept.proofs.KeptValues.{flag_plain, mode_plain, number_plain, name_plain, short_text_plain, filled_plain, exchange_plain, delete_plain, protocol_plain, component_plain, pattern_plain, apply_plain, priority_plain, type_plain, kind_plain, destination_plain, uris_plain, props_plain, arguments_plain, either_plain, either_within_plain, beside_plain, source_queue_plain, target_queue_plain, own_vhost_plain}
 
 -- ---- virtual hosts and the cluster
 
@@ -79,7 +79,7 @@ unfolding upstream_fault kept_upstream
 upstream_plain d h =
     let own = firsts _ _ h in
     let uri = firsts _ _ own.1 in
-    some_plain _ _ _ (required_plain _ _ d uris_plain uri.0) (overrides_plain d _ own.0 refl)
+    some_plain _ _ _ (required_within_plain _ _ d uris_plain uri.0) (overrides_plain d _ own.0 refl)
 
 member_plain : (d : Data) → member_fault d ≡ None → has_float (kept_member d) ≡ false
 unfolding member_fault kept_member
@@ -124,7 +124,7 @@ settings_plain d ms f m t s p =
     let source = firsts (optional_fault exchange_refusal (codes "src-exchange") d) _ s in
     let source_key = firsts (fault_with short_text_refusal (codes "src-exchange") (codes "src-exchange-key") d) _ source.1 in
     let prefetch = firsts _ (optional_fault protocol_refusal (codes "src-protocol") d ∷ []) source_key.1 in
-    some_plain _ _ _ (either_plain _ _ _ d props_plain props.0 older_props.0)
+    some_plain _ _ _ (either_within_plain _ _ _ d props_plain props.0 older_props.0)
     (some_plain _ _ _ (either_plain _ _ _ d flag_plain stamp.0 older_stamp.0)
     (some_plain _ _ _ (either_plain _ _ _ d delete_plain delete.0 older_delete.0)
     (some_plain _ _ _ (either_plain _ _ _ d (number_plain _ _) prefetch.0 older_prefetch.0)
@@ -143,7 +143,7 @@ source_plain d ms h p =
     let prefetch = firsts (optional_fault (number_refusal 0 most_prefetch) (codes "src-prefetch-count") d) _ routing.1 in
     let protocol = firsts _ [] prefetch.1 in
     some_plain _ _ _ (beside_plain _ _ _ d short_text_plain routing.0)
-    (some_plain _ _ _ (required_plain _ _ d uris_plain uri.0)
+    (some_plain _ _ _ (required_within_plain _ _ d uris_plain uri.0)
     (some_plain _ _ _ (source_queue_plain d queue.0)
     (some_plain (codes "src-protocol") _ _ (optional_plain protocol_refusal (codes "src-protocol") d protocol_plain protocol.0)
     (some_plain (codes "src-exchange") _ ms (optional_plain exchange_refusal (codes "src-exchange") d exchange_plain exchange.0) p))))
@@ -159,7 +159,7 @@ target_plain d ms h p =
     let routing = firsts _ _ exchange.1 in
     let protocol = firsts _ _ routing.1 in
     some_plain _ _ _ (beside_plain _ _ _ d short_text_plain routing.0)
-    (some_plain _ _ _ (required_plain _ _ d uris_plain uri.0)
+    (some_plain _ _ _ (required_within_plain _ _ d uris_plain uri.0)
     (some_plain _ _ _ (target_queue_plain d queue.0)
     (some_plain _ _ _ (optional_plain _ _ d protocol_plain protocol.0)
     (some_plain _ _ _ (optional_plain _ _ d exchange_plain exchange.0) p))))

@@ -12,10 +12,10 @@ use Rattle.defs_values.specs.declared.fault.KeyFault.{KeyFault}
 use Rattle.defs_values.specs.declared.fault.KeyFault.TheVariants as key
 use Rattle.defs_values.specs.declared.fault.Refusal.{Refusal}
 use Rattle.defs_lists.specs.declared.names.Name.{Name}
-use Rattle.defs_values.specs.Keys.{optional_fault, required, required_fault, first_fault}
+use Rattle.defs_values.specs.Keys.{optional_fault, required, required_fault, optional_within, inner_fault, required_within, first_fault}
 use Rattle.defs_kept.specs.Kept.{with_some}
 use Rattle.defs_lists.specs.Lists.{kept_of, list_fault}
-use Rattle.defs_values.specs.Paths.{item_fault, object_fault, inside_fault, below, item_path}
+use Rattle.defs_values.specs.Paths.{item_fault, object_fault, inside_fault, below, within, item_path}
 use Rattle.defs_values.specs.Values.{misfit}
 
 -- ---- what is there, if it is there, has none
@@ -73,8 +73,8 @@ IsOfScalars refusal =
     × ((ds : Items) → is_some (refusal (array ds)) ≡ true)
     × ((ms : Members) → is_some (refusal (object ms)) ≡ true)
 
--- what isn't refused has no floating-point number
-abbrev pub IsOfPlain : (Data → Option Refusal) → Type 0
+-- what isn't refused has no floating-point number; a refusal may have a path within the value
+abbrev pub IsOfPlain : {A : Type 0} → (Data → Option A) → Type 0
 IsOfPlain refusal = (d : Data) → refusal d ≡ None → has_float d ≡ false
 
 clash : {A : Type 0} (o : Option A) → is_some o ≡ true → o ≡ None → ⊥
@@ -90,15 +90,20 @@ scalars_plain refusal fits (string s) h = refl
 scalars_plain refusal fits (array ds) h = absurd (clash _ (fits.1 ds) h)
 scalars_plain refusal fits (object ms) h = absurd (clash _ (fits.2 ms) h)
 
-pub optional_at : (refusal : Data → Option Refusal) (k : List ℕ) (o : Option Data) → IsOfPlain refusal
-    → option_map (key.Refused k) (option_and_then refusal o) ≡ None → IsPlain o
-optional_at refusal k None fits h = tt
-optional_at refusal k (Some d) fits h = fits d (map_none (key.Refused k) (refusal d) h)
+pub optional_at : {A : Type 0} (refusal : Data → Option A) (path : A → KeyFault) (o : Option Data) → IsOfPlain refusal
+    → option_map path (option_and_then refusal o) ≡ None → IsPlain o
+optional_at refusal path None fits h = tt
+optional_at refusal path (Some d) fits h = fits d (map_none path (refusal d) h)
 
 pub optional_plain : (refusal : Data → Option Refusal) (k : List ℕ) (d : Data) → IsOfPlain refusal
     → optional_fault refusal k d ≡ None → IsPlain (get k d)
 unfolding optional_fault
-optional_plain refusal k d fits h = optional_at refusal k (get k d) fits h
+optional_plain refusal k d fits h = optional_at refusal (key.Refused k) (get k d) fits h
+
+pub optional_within_plain : (fault : Data → Option KeyFault) (k : List ℕ) (d : Data) → IsOfPlain fault
+    → optional_within fault k d ≡ None → IsPlain (get k d)
+unfolding optional_within
+optional_within_plain fault k d fits h = optional_at fault (within k) (get k d) fits h
 
 required_at : (refusal : Data → Option Refusal) (k : List ℕ) (o : Option Data) → IsOfPlain refusal
     → option_map (key.Refused k) (required refusal o) ≡ None → IsPlain o
@@ -109,6 +114,16 @@ pub required_plain : (refusal : Data → Option Refusal) (k : List ℕ) (d : Dat
     → required_fault refusal k d ≡ None → IsPlain (get k d)
 unfolding required_fault
 required_plain refusal k d fits h = required_at refusal k (get k d) fits h
+
+required_within_at : (fault : Data → Option KeyFault) (k : List ℕ) (o : Option Data) → IsOfPlain fault
+    → option_map (within k) (inner_fault fault o) ≡ None → IsPlain o
+required_within_at fault k None fits h = tt
+required_within_at fault k (Some d) fits h = fits d (map_none (within k) (fault d) h)
+
+pub required_within_plain : (fault : Data → Option KeyFault) (k : List ℕ) (d : Data) → IsOfPlain fault
+    → required_within fault k d ≡ None → IsPlain (get k d)
+unfolding required_within
+required_within_plain fault k d fits h = required_within_at fault k (get k d) fits h
 
 -- ---- items and lists
 

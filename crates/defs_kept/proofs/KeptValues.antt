@@ -14,18 +14,19 @@ use Rattle.defs_lists.specs.declared.names.Name.{Name}
 use Rattle.defs_values.specs.Arguments.{leaf_fault, field_fault, items_fault, members_fault, table_fault, arguments_fault, arguments_fault_of}
 use Rattle.defs_lists.specs.Bindings.{destination_refusal}
 use Rattle.defs_lists.specs.Exchanges.{kind_refusal}
-use Rattle.defs_values.specs.Keys.{optional_fault}
+use Rattle.defs_values.specs.Keys.{optional_fault, optional_within}
+use Rattle.defs_values.specs.Paths.{within}
 use Rattle.defs_kept.specs.Kept.{either_value, value_beside}
 use Rattle.defs_values.specs.Parameters.{component_refusal}
 use Rattle.defs_values.specs.Policies.{pattern_refusal, apply_refusal, priority_refusal}
 use Rattle.defs_lists.specs.Queues.{type_refusal}
-use Rattle.defs_values.specs.Shovels.{first_refusal, flag_refusal, count_refusal, delete_refusal, exchange_refusal, short_text_refusal, protocol_refusal, property_refusal, properties_refusal, refusal_in, props_refusal, has_key, fault_without, fault_with, alone_refusal, one_refusal, source_queue_fault, target_queue_fault}
+use Rattle.defs_values.specs.Shovels.{first_refusal, flag_refusal, delete_refusal, exchange_refusal, short_text_refusal, protocol_refusal, property_refusal, properties_fault, fault_in, props_fault, has_key, fault_without, within_without, fault_with, alone_refusal, one_refusal, source_queue_fault, target_queue_fault}
 use Rattle.defs_values.specs.Uris as uris
-use Rattle.defs_values.specs.Uris.{uri_refusal, items_refusal, list_refusal, uris_refusal}
+use Rattle.defs_values.specs.Uris.{uri_refusal, item_refusal, list_fault, uris_fault}
 use Rattle.defs_values.specs.Values.{mode_refusal, number_refusal, name_refusal}
 use Rattle.defs_values.specs.Texts.{filled_refusal}
 use Rattle.defs_lists.specs.Vhosts.{own_vhost_refusal, own_vhost_fault}
-use Rattle.defs_kept.proofs.KeptLemmas.{IsPlain, IsOfScalars, IsOfPlain, map_none, or_none, split_plain, scalars_plain, optional_plain, optional_at, required_plain}
+use Rattle.defs_kept.proofs.KeptLemmas.{IsPlain, IsOfScalars, IsOfPlain, map_none, or_none, split_plain, scalars_plain, optional_plain, optional_within_plain, optional_at}
 
 -- ---- texts, truth values and whole numbers
 
@@ -65,10 +66,6 @@ pub protocol_plain : IsOfPlain protocol_refusal
 unfolding protocol_refusal
 protocol_plain = scalars_plain _ (λ x. refl, λ ds. refl, λ ms. refl)
 
-pub count_plain : IsOfPlain count_refusal
-unfolding count_refusal
-count_plain = scalars_plain _ (λ x. refl, λ ds. refl, λ ms. refl)
-
 pub component_plain : IsOfPlain component_refusal
 unfolding component_refusal
 component_plain = scalars_plain _ (λ x. refl, λ ds. refl, λ ms. refl)
@@ -103,29 +100,29 @@ uri_plain : IsOfPlain uri_refusal
 unfolding uri_refusal
 uri_plain = scalars_plain _ (λ x. refl, λ ds. refl, λ ms. refl)
 
-first_uri_none : (a b : Option Refusal) → uris.first_refusal a b ≡ None → (a ≡ None) × (b ≡ None)
-first_uri_none None b h = (refl, h)
-first_uri_none (Some x) b h = absurd (true≢false (ap is_some h))
+item_plain : IsOfPlain item_refusal
+unfolding item_refusal
+item_plain = scalars_plain _ (λ x. refl, λ ds. refl, λ ms. refl)
 
-uri_items : (ds : Items) → items_refusal ds ≡ None → items_have_float ds ≡ false
-uri_items no_items h = refl
-uri_items (item d ds) h =
-    let both = first_uri_none _ _ h in
-    split_plain _ _ (uri_plain d both.0) (uri_items ds both.1)
+uri_items : (index : ℕ) (ds : Items) → uris.items_fault index ds ≡ None → items_have_float ds ≡ false
+uri_items index no_items h = refl
+uri_items index (item d ds) h =
+    let both = or_none _ _ h in
+    split_plain _ _ (item_plain d (map_none _ _ both.0)) (uri_items (index + 1) ds both.1)
 
-uri_list : (ds : Items) → list_refusal ds ≡ None → items_have_float ds ≡ false
-unfolding list_refusal
+uri_list : (ds : Items) → list_fault ds ≡ None → items_have_float ds ≡ false
+unfolding list_fault
 uri_list no_items h = refl
-uri_list (item d ds) h = uri_items (item d ds) h
+uri_list (item d ds) h = uri_items 0 (item d ds) h
 
-pub uris_plain : IsOfPlain uris_refusal
-unfolding uris_refusal
+pub uris_plain : IsOfPlain uris_fault
+unfolding uris_fault
 uris_plain null h = refl
 uris_plain (boolean b) h = refl
-uris_plain (number n) h = uri_plain (number n) h
+uris_plain (number n) h = uri_plain (number n) (map_none _ _ h)
 uris_plain (string s) h = refl
 uris_plain (array ds) h = uri_list ds h
-uris_plain (object ms) h = uri_plain (object ms) h
+uris_plain (object ms) h = uri_plain (object ms) (map_none _ _ h)
 
 -- ---- the properties of a shovel
 
@@ -133,30 +130,22 @@ pub first_none : (a b : Option Refusal) → first_refusal a b ≡ None → (a �
 first_none None b h = (refl, h)
 first_none (Some x) b h = absurd (true≢false (ap is_some h))
 
-chosen_plain : (b : Bool) (one other : Data → Option Refusal) → IsOfPlain one → IsOfPlain other → (d : Data)
-    → cond b (one d) (other d) ≡ None → has_float d ≡ false
-chosen_plain true one other p q d h = p d h
-chosen_plain false one other p q d h = q d h
-
-never : IsOfPlain (λ d. Some Shape)
-never d h = absurd (true≢false (ap is_some h))
+float_first : (b : Bool) (other : Option Refusal) → cond b (Some Float) other ≡ None → b ≡ false
+float_first true other h = absurd (true≢false (ap is_some h))
+float_first false other h = refl
 
 property_plain : (k : List ℕ) → IsOfPlain (property_refusal k)
 unfolding property_refusal
-property_plain k =
-    chosen_plain _ short_text_refusal _ short_text_plain
-    (chosen_plain _ (number_refusal 0 255) _ (number_plain 0 255)
-    (chosen_plain _ count_refusal _ count_plain
-    (chosen_plain _ (number_refusal 2 2) (λ d. Some Shape) (number_plain 2 2) never)))
+property_plain k d h = float_first (has_float d) _ h
 
-properties_plain : (ms : Members) → properties_refusal ms ≡ None → members_have_float ms ≡ false
+properties_plain : (ms : Members) → properties_fault ms ≡ None → members_have_float ms ≡ false
 properties_plain no_members h = refl
 properties_plain (member k d ms) h =
-    let both = first_none _ _ h in
-    split_plain _ _ (property_plain k d both.0) (properties_plain ms both.1)
+    let both = or_none _ _ h in
+    split_plain _ _ (property_plain k d (map_none _ _ both.0)) (properties_plain ms both.1)
 
-pub props_plain : IsOfPlain props_refusal
-unfolding props_refusal
+pub props_plain : IsOfPlain props_fault
+unfolding props_fault
 props_plain null h = refl
 props_plain (boolean b) h = refl
 props_plain (number n) h = absurd (true≢false (ap is_some h))
@@ -218,21 +207,27 @@ arguments_plain d h = arguments_at (get (codes "arguments") d) h
 
 -- ---- keys that stand for others
 
-either_at : (refusal : Data → Option Refusal) (older : List ℕ) (o p : Option Data) → IsOfPlain refusal → IsPlain o
-    → cond (is_some o) None (option_map (key.Refused older) (option_and_then refusal p)) ≡ None → IsPlain (option_or o p)
-either_at refusal older None p fits plain h = optional_at refusal older p fits h
-either_at refusal older (Some d) p fits plain h = plain
+either_at : {A : Type 0} (refusal : Data → Option A) (path : A → KeyFault) (o p : Option Data) → IsOfPlain refusal → IsPlain o
+    → cond (is_some o) None (option_map path (option_and_then refusal p)) ≡ None → IsPlain (option_or o p)
+either_at refusal path None p fits plain h = optional_at refusal path p fits h
+either_at refusal path (Some d) p fits plain h = plain
 
 -- a newer key, or where that isn't there the older
 pub either_plain : (refusal : Data → Option Refusal) (newer older : List ℕ) (d : Data) → IsOfPlain refusal
     → optional_fault refusal newer d ≡ None → fault_without refusal newer older d ≡ None → IsPlain (either_value newer older d)
 unfolding fault_without optional_fault
 either_plain refusal newer older d fits g h =
-    either_at refusal older (get newer d) (get older d) fits (optional_plain refusal newer d fits g) h
+    either_at refusal (key.Refused older) (get newer d) (get older d) fits (optional_plain refusal newer d fits g) h
+
+pub either_within_plain : (fault : Data → Option KeyFault) (newer older : List ℕ) (d : Data) → IsOfPlain fault
+    → optional_within fault newer d ≡ None → within_without fault newer older d ≡ None → IsPlain (either_value newer older d)
+unfolding within_without optional_within
+either_within_plain fault newer older d fits g h =
+    either_at fault (within older) (get newer d) (get older d) fits (optional_within_plain fault newer d fits g) h
 
 beside_at : (refusal : Data → Option Refusal) (k : List ℕ) (b : Bool) (o : Option Data) → IsOfPlain refusal
     → cond b (option_map (key.Refused k) (option_and_then refusal o)) None ≡ None → IsPlain (cond b o None)
-beside_at refusal k true o fits h = optional_at refusal k o fits h
+beside_at refusal k true o fits h = optional_at refusal (key.Refused k) o fits h
 beside_at refusal k false o fits h = tt
 
 -- a key that is looked at only beside another

@@ -1,8 +1,7 @@
 -- The arguments of bindings as field tables (AMQP 0-9-1, 4.2.5.5 "Field Tables"; RabbitMQ's AMQP 0-9-1 Errata, "Field types"):
 -- a text is a long string, a whole number a signed long-long, and an object a table in the order of its keys' octets.
-use Rattle.std.specs.Prelude.{ℕ, ◌+◌, ◌-◌, ◌==◌, ℤ, pos, List, [], ◌∷◌, ◌++◌, length, nat_lt, codes, Option, Some, None, option_map, option_and_then, unwrap_or, if◌then◌else◌}
+use Rattle.std.specs.Prelude.{ℕ, ◌+◌, ◌-◌, ◌==◌, ℤ, pos, List, [], ◌∷◌, length, nat_lt, codes, Option, Some, None, option_map, option_and_then, unwrap_or, if◌then◌else◌}
 use Rattle.std.specs.Option.{option_or}
-use Rattle.std.specs.Fmt.{decimal}
 use Rattle.serde_json.specs.Data.{Data, null, boolean, number, string, array, object, Items, no_items, item, Members, no_members, member}
 use Rattle.serde_json.specs.Find.{get, as_number, as_i64, as_object}
 use Rattle.field_tables.specs.Fields as fields
@@ -13,6 +12,7 @@ use Rattle.defs_values.specs.declared.fault.Refusal.{Refusal}
 use Rattle.defs_values.specs.declared.fault.Refusal.TheVariants.{Limit}
 use Rattle.defs_values.specs.declared.fault.KeyFault.{KeyFault}
 use Rattle.defs_values.specs.declared.fault.KeyFault.TheVariants as key
+use Rattle.defs_values.specs.Paths.{within, index_step, key_step}
 use Rattle.defs_values.specs.Values.{misfit, refused_unless}
 
 -- ---- what they mean
@@ -47,17 +47,6 @@ unfoldable pub arguments_of : Data → Pairs
 arguments_of d = table_from (option_and_then as_object (get (codes "arguments") d))
 
 -- ---- which are refused
-
--- a fault further within
-abbrev pub within : List ℕ → KeyFault → KeyFault
-within path (key.Refused inner why) = key.Refused (path ++ inner) why
-within path key.Memory = key.Memory
-
-unfoldable pub index_step : ℕ → List ℕ
-index_step index = codes "[" ++ decimal index ++ codes "]"
-
-unfoldable pub key_step : List ℕ → List ℕ
-key_step k = codes "." ++ k
 
 -- a floating-point number, or a whole one of over 64 bits
 abbrev pub number_refusal : Data → Option Refusal

@@ -13,6 +13,18 @@ use Rattle.defs_values.specs.Values.{misfit}
 unfoldable pub item_path : List ℕ → ℕ → List ℕ
 item_path list index = list ++ codes "[" ++ decimal index ++ codes "]"
 
+-- a fault further within: the path to it, and its path there
+abbrev pub within : List ℕ → KeyFault → KeyFault
+within path (key.Refused inner why) = key.Refused (path ++ inner) why
+within path key.Memory = key.Memory
+
+-- the steps to an item of a list, and to a key of an object
+unfoldable pub index_step : ℕ → List ℕ
+index_step index = codes "[" ++ decimal index ++ codes "]"
+
+unfoldable pub key_step : List ℕ → List ℕ
+key_step k = codes "." ++ k
+
 -- a key of what stands at a path
 unfoldable pub key_path : List ℕ → List ℕ → List ℕ
 key_path path k = path ++ codes "." ++ k

@@ -4,6 +4,7 @@ use Rattle.std.specs.Prelude.{ℕ, Bool, true, false, not, ◌||◌, List, [], �
 use Rattle.std.specs.Option.{option_or}
 use Rattle.serde_json.specs.Data.{Data, Members, no_members, member}
 use Rattle.serde_json.specs.Find.{get, as_str, as_bool, as_number, as_u64, as_object}
+use Rattle.serde_json.specs.Written.{has_float}
 use Rattle.amqp_props.specs.declared.link.AckMode.{AckMode}
 use Rattle.amqp_props.specs.declared.link.AckMode.TheVariants.{OnConfirm}
 use Rattle.amqp_props.specs.declared.link.DeleteAfter.{DeleteAfter}
@@ -14,14 +15,15 @@ use Rattle.amqp_props.specs.declared.link.TargetAt.{TargetAt}
 use Rattle.amqp_props.specs.declared.link.TargetAt.TheVariants as target
 use Rattle.amqp_props.specs.declared.properties.Properties.{Properties}
 use Rattle.defs_values.specs.declared.fault.Refusal.{Refusal}
-use Rattle.defs_values.specs.declared.fault.Refusal.TheVariants.{Shape}
+use Rattle.defs_values.specs.declared.fault.Refusal.TheVariants.{Shape, Float}
 use Rattle.defs_values.specs.declared.fault.KeyFault.{KeyFault}
 use Rattle.defs_values.specs.declared.fault.KeyFault.TheVariants as key
 use Rattle.fed_defs.specs.declared.shovel.ShovelDef.{ShovelDef}
-use Rattle.defs_values.specs.Keys.{value_at, optional_fault, required_fault, first_fault}
+use Rattle.defs_values.specs.Keys.{value_at, optional_fault, optional_within, required_within, first_fault}
+use Rattle.defs_values.specs.Paths.{key_step}
 use Rattle.fed_defs.specs.Texts.{same_text, is_reserved}
 use Rattle.defs_values.specs.Values.{misfit, refused_unless, text_refusal, mode_at, mode_refusal, number_in, number_refusal, name_refusal}
-use Rattle.defs_values.specs.Uris.{uris_at, uris_refusal}
+use Rattle.defs_values.specs.Uris.{uris_at, uris_fault}
 use Rattle.defs_values.specs.Upstreams.{most_prefetch, most_delay}
 use Rattle.fed_defs.specs.Properties.{no_props}
 
@@ -91,28 +93,34 @@ is_text_property k =
     || same_text k (codes "reply_to") || same_text k (codes "expiration") || is_identity k
 
 -- no other property may be set
-unfoldable pub property_refusal : List ℕ → Data → Option Refusal
-property_refusal k d =
+unfoldable pub plain_refusal : List ℕ → Data → Option Refusal
+plain_refusal k d =
     if is_text_property k then short_text_refusal d else
     if same_text k (codes "priority") then number_refusal 0 255 d else
     if same_text k (codes "timestamp") then count_refusal d else
     if same_text k (codes "delivery_mode") then number_refusal 2 2 d else Some Shape
+
+-- a floating-point number is refused first, at any depth and under any name
+unfoldable pub property_refusal : List ℕ → Data → Option Refusal
+property_refusal k d = if has_float d then Some Float else plain_refusal k d
 
 -- the first of two refusals
 abbrev pub first_refusal : Option Refusal → Option Refusal → Option Refusal
 first_refusal None later = later
 first_refusal (Some why) later = Some why
 
-abbrev pub properties_refusal : Members → Option Refusal
-properties_refusal no_members = None
-properties_refusal (member k d ms) = first_refusal (property_refusal k d) (properties_refusal ms)
+-- the first refused property, at its name
+abbrev pub properties_fault : Members → Option KeyFault
+properties_fault no_members = None
+properties_fault (member k d ms) =
+    option_or (option_map (key.Refused (key_step k)) (property_refusal k d)) (properties_fault ms)
 
-abbrev pub refusal_in : Data → Option Members → Option Refusal
-refusal_in d None = Some (misfit d)
-refusal_in d (Some ms) = properties_refusal ms
+abbrev pub fault_in : Data → Option Members → Option KeyFault
+fault_in d None = Some (key.Refused [] (misfit d))
+fault_in d (Some ms) = properties_fault ms
 
-unfoldable pub props_refusal : Data → Option Refusal
-props_refusal d = refusal_in d (as_object d)
+unfoldable pub props_fault : Data → Option KeyFault
+props_fault d = fault_in d (as_object d)
 
 unfoldable pub props_of : Data → Properties
 props_of d = record {
@@ -153,6 +161,10 @@ value_at_either meaning newer older d = option_or (value_at meaning newer d) (va
 -- a key that is looked at only where another isn't there
 unfoldable pub fault_without : (Data → Option Refusal) → List ℕ → List ℕ → Data → Option KeyFault
 fault_without refusal other k d = if has_key other d then None else optional_fault refusal k d
+
+-- the same of a key that is refused at a place within its value
+unfoldable pub within_without : (Data → Option KeyFault) → List ℕ → List ℕ → Data → Option KeyFault
+within_without fault other k d = if has_key other d then None else optional_within fault k d
 
 -- a key that is looked at only where another is there
 unfoldable pub fault_with : (Data → Option Refusal) → List ℕ → List ℕ → Data → Option KeyFault
@@ -240,17 +252,17 @@ target_names_fault d = first_fault (
     optional_fault exchange_refusal (codes "dest-exchange") d
     ∷ fault_with short_text_refusal (codes "dest-exchange") (codes "dest-exchange-key") d
     ∷ optional_fault protocol_refusal (codes "dest-protocol") d
-    ∷ optional_fault props_refusal (codes "dest-publish-properties") d
+    ∷ optional_within props_fault (codes "dest-publish-properties") d
     ∷ [])
 
 unfoldable pub target_fault : Data → Option KeyFault
-target_fault d = first_fault (target_names_fault d ∷ target_queue_fault d ∷ required_fault uris_refusal (codes "dest-uri") d ∷ [])
+target_fault d = first_fault (target_names_fault d ∷ target_queue_fault d ∷ required_within uris_fault (codes "dest-uri") d ∷ [])
 
 -- from `prefetch-count` to `src-delete-after`
 unfoldable pub middle_fault : Data → Option KeyFault
 middle_fault d = first_fault (
     fault_without (number_refusal 0 most_prefetch) (codes "src-prefetch-count") (codes "prefetch-count") d
-    ∷ fault_without props_refusal (codes "dest-publish-properties") (codes "publish-properties") d
+    ∷ within_without props_fault (codes "dest-publish-properties") (codes "publish-properties") d
     ∷ optional_fault (number_refusal 0 most_delay) (codes "reconnect-delay") d
     ∷ optional_fault delete_refusal (codes "src-delete-after") d
     ∷ [])
@@ -265,7 +277,7 @@ source_names_fault d = first_fault (
     ∷ [])
 
 unfoldable pub source_fault : Data → Option KeyFault
-source_fault d = first_fault (source_names_fault d ∷ source_queue_fault d ∷ required_fault uris_refusal (codes "src-uri") d ∷ [])
+source_fault d = first_fault (source_names_fault d ∷ source_queue_fault d ∷ required_within uris_fault (codes "src-uri") d ∷ [])
 
 unfoldable pub shovel_fault : Data → Option KeyFault
 shovel_fault d = first_fault (front_fault d ∷ target_fault d ∷ middle_fault d ∷ source_fault d ∷ [])

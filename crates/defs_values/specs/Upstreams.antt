@@ -6,9 +6,9 @@ use Rattle.serde_json.specs.Find.{as_str}
 use Rattle.defs_values.specs.declared.fault.KeyFault.{KeyFault}
 use Rattle.fed_defs.specs.declared.upstream.Overrides.{Overrides}
 use Rattle.fed_defs.specs.declared.upstream.UpstreamDef.{UpstreamDef}
-use Rattle.defs_values.specs.Keys.{value_at, optional_fault, required_fault, first_fault}
+use Rattle.defs_values.specs.Keys.{value_at, optional_fault, required_within, first_fault}
 use Rattle.defs_values.specs.Values.{mode_at, mode_refusal, number_in, number_refusal, name_refusal}
-use Rattle.defs_values.specs.Uris.{uris_at, uris_refusal}
+use Rattle.defs_values.specs.Uris.{uris_at, uris_fault}
 
 -- the greatest values of the keys that are numbers
 abbrev pub most_prefetch : ℕ
@@ -54,4 +54,4 @@ unfoldable pub upstream_of : Data → UpstreamDef
 upstream_of d = record { uris = uris_at (codes "uri") d; own = overrides_of d }
 
 unfoldable pub upstream_fault : Data → Option KeyFault
-upstream_fault d = first_fault (overrides_fault d ∷ required_fault uris_refusal (codes "uri") d ∷ [])
+upstream_fault d = first_fault (overrides_fault d ∷ required_within uris_fault (codes "uri") d ∷ [])

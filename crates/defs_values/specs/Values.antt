@@ -3,6 +3,7 @@
 use Rattle.std.specs.Prelude.{ℕ, ◌≤◌, IfSome, Bool, false, not, ◌&&◌, List, length, nat_le, nat_lt, codes, Option, Some, None, option_map, option_and_then, unwrap_or, if◌then◌else◌}
 use Rattle.serde_json.specs.Data.{Data}
 use Rattle.serde_json.specs.Find.{as_str, as_number, as_u64, is_float}
+use Rattle.serde_json.specs.Written.{has_float}
 use Rattle.amqp_props.specs.declared.link.AckMode.{AckMode}
 use Rattle.amqp_props.specs.declared.link.AckMode.TheVariants.{OnConfirm, OnPublish, NoAck}
 use Rattle.defs_values.specs.declared.fault.Refusal.{Refusal}
@@ -12,6 +13,10 @@ use Rattle.fed_defs.specs.Texts.{same_text, is_free_name}
 -- a floating-point number is refused as one, and what else doesn't fit by its shape
 abbrev pub misfit : Data → Refusal
 misfit d = if unwrap_or (option_map is_float (as_number d)) false then Float else Shape
+
+-- within a list or an object that is read, a value is refused as a floating-point number where it has one at any depth
+abbrev pub deep_misfit : Data → Refusal
+deep_misfit d = if has_float d then Float else Shape
 
 -- a value that has no meaning at its key is refused
 abbrev pub refused_unless : {A : Type 0} → Option A → Data → Option Refusal

@@ -1,5 +1,5 @@
 //! The arguments of bindings, read as field tables.
-ghost use Rattle.std.specs.Prelude.{◌≡◌, ◌≢◌, ◌+◌, ◌++◌, [], None, Some, IfOk, OnOk, IfErr, option_map, length, min, nat_lt};
+ghost use Rattle.std.specs.Prelude.{◌≡◌, ◌≢◌, ◌+◌, [], None, Some, IfOk, OnOk, IfErr, option_map, length, min, nat_lt};
 ghost use Rattle.std.specs.Option.{option_or};
 ghost use Rattle.serde_json.specs.Data.{string};
 ghost use Rattle.field_tables.specs.Fields.{signed_longlong};
@@ -8,90 +8,16 @@ ghost use Rattle.serde_json.specs.Find.{as_object};
 ghost use Rattle.field_tables.specs.Tables.{max_depth, table_spelling};
 ghost use Rattle.field_tables.specs.View.{field_view, fields_view, pairs_view, pairs_of, table_view};
 ghost use Rattle.defs_values.specs.Arguments as arguments;
+ghost use Rattle.defs_values.specs.Paths.{within, key_step};
 
 use crate::fault::{KeyFault, Refusal};
 use crate::keys::value_of;
+use crate::paths::{here, in_index, in_key, within};
 use crate::value::misfit;
-use amqp_props::{FieldTable, Text};
+use amqp_props::FieldTable;
 use field_tables::{FieldValue, Table};
 use serde_json::{Map, Value};
-use std::alloc::{AllocError, Global};
-
-/// A fault of what is looked at.
-fn here(alloc: Global, why: Refusal) -> KeyFault
-    ensures { result ≢ KeyFault.Memory → result ≡ KeyFault.Refused [] why }
-{
-    match Text::new(alloc, String::new(alloc)) {
-        Ok(path) => KeyFault::Refused(path, why),
-        Err(_) => KeyFault::Memory,
-    }
-}
-
-/// The step to an item.
-#[tactic(auto, unfolding(crate::specs::Arguments::index_step))]
-fn index_step(alloc: Global, index: usize) -> Result<Text, AllocError>
-    ensures { IfOk result (λ step. step ≡ arguments.index_step index) }
-{
-    let mut step = String::from_str(alloc, "[")?;
-    write!(step, "{index}")?;
-    step.push_str("]")?;
-    Text::new(alloc, step)
-}
-
-/// The step to a key.
-#[tactic(auto, unfolding(crate::specs::Arguments::key_step))]
-fn key_step(alloc: Global, key: &str) -> Result<Text, AllocError>
-    ensures { IfOk result (λ step. step ≡ arguments.key_step key.now) }
-{
-    let mut step = String::from_str(alloc, ".")?;
-    step.push_str(key)?;
-    Text::new(alloc, step)
-}
-
-/// Two texts behind each other.
-fn joined(alloc: Global, front: &str, back: &str) -> Result<Text, AllocError>
-    ensures { IfOk result (λ text. text ≡ front.now ++ back.now) }
-{
-    let mut text = String::from_str(alloc, front)?;
-    text.push_str(back)?;
-    Text::new(alloc, text)
-}
-
-/// The fault of what stands at the path.
-fn within(alloc: Global, path: &str, fault: KeyFault) -> KeyFault
-    ensures memory { result ≢ KeyFault.Memory → fault ≢ KeyFault.Memory }
-    ensures path { result ≢ KeyFault.Memory → result ≡ arguments.within path.now fault }
-{
-    match fault {
-        KeyFault::Refused(inner, why) => match joined(alloc, path, inner.as_str()) {
-            Ok(whole) => KeyFault::Refused(whole, why),
-            Err(_) => KeyFault::Memory,
-        },
-        KeyFault::Memory => KeyFault::Memory,
-    }
-}
-
-/// The fault of an item.
-fn in_index(alloc: Global, index: usize, fault: KeyFault) -> KeyFault
-    ensures memory { result ≢ KeyFault.Memory → fault ≢ KeyFault.Memory }
-    ensures path { result ≢ KeyFault.Memory → result ≡ arguments.within (arguments.index_step index) fault }
-{
-    match index_step(alloc, index) {
-        Ok(step) => within(alloc, step.as_str(), fault),
-        Err(_) => KeyFault::Memory,
-    }
-}
-
-/// The fault at a key.
-fn in_key(alloc: Global, key: &str, fault: KeyFault) -> KeyFault
-    ensures memory { result ≢ KeyFault.Memory → fault ≢ KeyFault.Memory }
-    ensures path { result ≢ KeyFault.Memory → result ≡ arguments.within (arguments.key_step key.now) fault }
-{
-    match key_step(alloc, key) {
-        Ok(step) => within(alloc, step.as_str(), fault),
-        Err(_) => KeyFault::Memory,
-    }
-}
+use std::alloc::Global;
 
 /// A value that holds no others, where so many more levels are allowed.
 fn leaf(alloc: Global, levels: u32, field: FieldValue) -> Result<FieldValue, KeyFault>
@@ -183,10 +109,10 @@ fn read_items(alloc: Global, levels: u32, items: &Vec<Value>) -> Result<Vec<Fiel
 #[cycle(arguments)]
 fn read_pair(alloc: Global, levels: u32, key: &str, value: &Value) -> Result<FieldValue, KeyFault>
     ensures read { IfOk result (λ field. field_view field ≡ arguments.field_of (view value.now)) }
-    ensures ok { OnOk result (option_map (arguments.within (arguments.key_step key.now))
+    ensures ok { OnOk result (option_map (within (key_step key.now))
         (option_or (arguments.field_fault levels (view value.now)) (arguments.key_fault key.now)) ≡ None) }
     ensures fault { IfErr result (λ fault. fault ≢ KeyFault.Memory
-        → option_map (arguments.within (arguments.key_step key.now))
+        → option_map (within (key_step key.now))
         (option_or (arguments.field_fault levels (view value.now)) (arguments.key_fault key.now)) ≡ Some fault) }
 {
     match read_field(alloc, levels, value) {

@@ -32,7 +32,7 @@ pub enum Refusal {
 /// The first key whose value is refused.
 #[derive(Debug, Drop, Error)]
 pub enum KeyFault {
-    /// The key, or the path that leads to it, and why.
+    /// The path to the value, which begins with its key, and why.
     #[error("a key is refused: {1}")]
     Refused(Text, Refusal),
     /// Memory ran out.
@@ -119,20 +119,6 @@ impl<T: Drop> From<AllocFailed<T>> for KeyFault {
 
     fn from(_: AllocFailed<T>) -> KeyFault {
         KeyFault::Memory
-    }
-}
-
-impl From<KeyFault> for ValueFault {
-    ghost use Rattle.std.specs.Prelude.{◌≡◌};
-    ghost use Rattle.defs_values.specs.Keys.{named};
-
-    ghost from_gives = { λ fault named_fault. named_fault ≡ named fault };
-
-    fn from(fault: KeyFault) -> ValueFault {
-        match fault {
-            KeyFault::Refused(key, _) => ValueFault::Key(key),
-            KeyFault::Memory => ValueFault::Memory,
-        }
     }
 }
 

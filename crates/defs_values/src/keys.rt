@@ -1,14 +1,16 @@
 //! Values by their keys.
-ghost use Rattle.std.specs.Prelude.{◌≡◌, ◌≢◌, None, Some, IfOk, OnOk, IfErr, option_map};
+ghost use Rattle.std.specs.Prelude.{◌≡◌, ◌≢◌, ◌<◌, ◌==◌, None, Some, IfOk, OnOk, IfErr, option_map};
 ghost use Rattle.serde_json.specs.View.{view};
 ghost use Rattle.serde_json.specs.Find.{get, as_str};
 ghost use Rattle.defs_values.specs.Uris as uris;
 ghost use Rattle.defs_values.specs.Values as values;
-ghost use Rattle.defs_values.specs.Keys.{value_at, optional_fault, required_fault};
+ghost use Rattle.defs_values.specs.Keys.{value_at, named, first_key, optional_fault, required_fault, required_within};
+ghost use Rattle.std.specs.List.{before_first};
 ghost use Rattle.defs_values.specs.Shovels as shovels;
 ghost use Rattle.defs_values.specs.Texts as hosts;
 
-use crate::fault::{KeyFault, Refusal};
+use crate::fault::{KeyFault, Refusal, ValueFault};
+use crate::paths::{here, within};
 use crate::props::short_text_refusal;
 use crate::setting::read_short_text;
 use crate::uris::read_uris;
@@ -36,6 +38,39 @@ pub fn refused(alloc: Global, key: &str, why: Refusal) -> KeyFault
     match Text::from_str(alloc, key) {
         Ok(key) => KeyFault::Refused(key, why),
         Err(_) => KeyFault::Memory,
+    }
+}
+
+/// What stands before the first such octet of ASCII, or all where there is none.
+fn before(text: &str, mark: char) -> &str
+    requires { mark < 128 }
+    ensures { result.now ≡ before_first (λ b. b == mark) text.now }
+{
+    match text.split_once(mark) {
+        Some((front, _)) => front,
+        None => text,
+    }
+}
+
+/// The key that a path begins with.
+#[tactic(auto, unfolding(crate::specs::Keys::first_key))]
+fn first_key(path: &str) -> &str
+    ensures { result.now ≡ first_key path.now }
+{
+    before(before(path, '['), '.')
+}
+
+/// The refused key alone.
+pub fn named(alloc: Global, fault: &KeyFault) -> ValueFault
+    ensures memory { result ≢ ValueFault.Memory → fault.now ≢ KeyFault.Memory }
+    ensures key { result ≢ ValueFault.Memory → result ≡ named fault.now }
+{
+    match fault {
+        KeyFault::Refused(path, _) => match Text::from_str(alloc, first_key(path.as_str())) {
+            Ok(key) => ValueFault::Key(key),
+            Err(_) => ValueFault::Memory,
+        },
+        KeyFault::Memory => ValueFault::Memory,
     }
 }
 
@@ -98,19 +133,19 @@ pub fn name_at(alloc: Global, value: &Value, key: &str) -> Result<Option<Text>, 
 }
 
 /// Reads the URIs at the key, which has to be there.
-#[tactic(auto, unfolding(crate::specs::Keys::required_fault))]
+#[tactic(auto, unfolding(crate::specs::Keys::required_within))]
 pub fn uris_at(alloc: Global, value: &Value, key: &str) -> Result<Uris, KeyFault>
     ensures read { IfOk result (λ list. list ≡ uris.uris_at key.now (view value.now)) }
-    ensures ok { OnOk result (required_fault uris.uris_refusal key.now (view value.now) ≡ None) }
+    ensures ok { OnOk result (required_within uris.uris_fault key.now (view value.now) ≡ None) }
     ensures fault { IfErr result (λ fault. fault ≢ KeyFault.Memory
-        → required_fault uris.uris_refusal key.now (view value.now) ≡ Some fault) }
+        → required_within uris.uris_fault key.now (view value.now) ≡ Some fault) }
 {
     let Some(found) = value_of(value, key) else {
-        return Err(refused(alloc, key, Refusal::Shape));
+        return Err(within(alloc, key, here(alloc, Refusal::Shape)));
     };
     match read_uris(alloc, found) {
         Ok(uris) => Ok(uris),
-        Err(why) => Err(refused(alloc, key, why)),
+        Err(fault) => Err(within(alloc, key, fault)),
     }
 }
 

@@ -1,10 +1,118 @@
 //! Where faults stand in a definitions file.
-ghost use Rattle.std.specs.Prelude.{◌≡◌, ◌≢◌, IfOk};
+ghost use Rattle.std.specs.Prelude.{◌≡◌, ◌≢◌, ◌++◌, [], IfOk};
 ghost use Rattle.defs_values.specs.Paths as paths;
 
 use crate::fault::{KeyFault, Refusal};
 use amqp_props::Text;
 use std::alloc::{AllocError, Global};
+
+/// A fault of what is looked at.
+pub fn here(alloc: Global, why: Refusal) -> KeyFault
+    ensures memory { result ≢ KeyFault.Memory → why ≢ Refusal.Memory }
+    ensures path { result ≢ KeyFault.Memory → result ≡ KeyFault.Refused [] why }
+{
+    if why == Refusal::Memory {
+        return KeyFault::Memory;
+    }
+    match Text::new(alloc, String::new(alloc)) {
+        Ok(path) => KeyFault::Refused(path, why),
+        Err(_) => KeyFault::Memory,
+    }
+}
+
+/// The step to an item.
+#[tactic(auto, unfolding(crate::specs::Paths::index_step))]
+fn index_step(alloc: Global, index: usize) -> Result<Text, AllocError>
+    ensures { IfOk result (λ step. step ≡ paths.index_step index) }
+{
+    let mut step = String::from_str(alloc, "[")?;
+    write!(step, "{index}")?;
+    step.push_str("]")?;
+    Text::new(alloc, step)
+}
+
+/// The step to a key.
+#[tactic(auto, unfolding(crate::specs::Paths::key_step))]
+fn key_step(alloc: Global, key: &str) -> Result<Text, AllocError>
+    ensures { IfOk result (λ step. step ≡ paths.key_step key.now) }
+{
+    let mut step = String::from_str(alloc, ".")?;
+    step.push_str(key)?;
+    Text::new(alloc, step)
+}
+
+/// A fault of an item of what is looked at.
+pub fn at_index(alloc: Global, index: usize, why: Refusal) -> KeyFault
+    ensures memory { result ≢ KeyFault.Memory → why ≢ Refusal.Memory }
+    ensures path { result ≢ KeyFault.Memory → result ≡ KeyFault.Refused (paths.index_step index) why }
+{
+    if why == Refusal::Memory {
+        return KeyFault::Memory;
+    }
+    match index_step(alloc, index) {
+        Ok(path) => KeyFault::Refused(path, why),
+        Err(_) => KeyFault::Memory,
+    }
+}
+
+/// A fault at a key of what is looked at.
+pub fn at_key(alloc: Global, key: &str, why: Refusal) -> KeyFault
+    ensures memory { result ≢ KeyFault.Memory → why ≢ Refusal.Memory }
+    ensures path { result ≢ KeyFault.Memory → result ≡ KeyFault.Refused (paths.key_step key.now) why }
+{
+    if why == Refusal::Memory {
+        return KeyFault::Memory;
+    }
+    match key_step(alloc, key) {
+        Ok(path) => KeyFault::Refused(path, why),
+        Err(_) => KeyFault::Memory,
+    }
+}
+
+/// Two texts behind each other.
+fn joined(alloc: Global, front: &str, back: &str) -> Result<Text, AllocError>
+    ensures { IfOk result (λ text. text ≡ front.now ++ back.now) }
+{
+    let mut text = String::from_str(alloc, front)?;
+    text.push_str(back)?;
+    Text::new(alloc, text)
+}
+
+/// The fault of what stands at the path.
+pub fn within(alloc: Global, path: &str, fault: KeyFault) -> KeyFault
+    ensures memory { result ≢ KeyFault.Memory → fault ≢ KeyFault.Memory }
+    ensures path { result ≢ KeyFault.Memory → result ≡ paths.within path.now fault }
+{
+    match fault {
+        KeyFault::Refused(inner, why) => match joined(alloc, path, inner.as_str()) {
+            Ok(whole) => KeyFault::Refused(whole, why),
+            Err(_) => KeyFault::Memory,
+        },
+        KeyFault::Memory => KeyFault::Memory,
+    }
+}
+
+/// The fault of an item.
+pub fn in_index(alloc: Global, index: usize, fault: KeyFault) -> KeyFault
+    ensures memory { result ≢ KeyFault.Memory → fault ≢ KeyFault.Memory }
+    ensures path { result ≢ KeyFault.Memory → result ≡ paths.within (paths.index_step index) fault }
+{
+    match index_step(alloc, index) {
+        Ok(step) => within(alloc, step.as_str(), fault),
+        Err(_) => KeyFault::Memory,
+    }
+}
+
+/// The fault at a key.
+pub fn in_key(alloc: Global, key: &str, fault: KeyFault) -> KeyFault
+    ensures memory { result ≢ KeyFault.Memory → fault ≢ KeyFault.Memory }
+    ensures path { result ≢ KeyFault.Memory → result ≡ paths.within (paths.key_step key.now) fault }
+{
+    match key_step(alloc, key) {
+        Ok(step) => within(alloc, step.as_str(), fault),
+        Err(_) => KeyFault::Memory,
+    }
+}
 
 /// The path of an item.
 #[tactic(auto, unfolding(crate::specs::Paths::item_path))]

@@ -1,14 +1,17 @@
 //! The properties that a shovel sets on each message.
-ghost use Rattle.std.specs.Prelude.{◌≡◌, ◌≤◌, None, Some, IfOk};
+ghost use Rattle.std.specs.Prelude.{◌≡◌, ◌≢◌, ◌≤◌, None, Some, IfOk, OnOk, IfErr, option_map};
 ghost use Rattle.serde_json.specs.View.{view, members_view};
 ghost use Rattle.serde_json.specs.Find.{as_str};
 ghost use Rattle.defs_values.specs.Values as values;
 ghost use Rattle.defs_values.specs.Shovels as shovels;
 ghost use Rattle.defs_values.specs.Keys.{value_at};
+ghost use Rattle.defs_values.specs.Paths.{key_step};
+ghost use Rattle.defs_values.specs.declared.fault.KeyFault.TheVariants as variant;
 
-use crate::fault::Refusal;
+use crate::fault::{KeyFault, Refusal};
 use crate::keys::value_of;
-use crate::value::{is_word, misfit};
+use crate::paths::{at_key, here};
+use crate::value::{has_float, is_word, misfit};
 use amqp_props::{Properties, Text};
 use serde_json::{Map, Value};
 use std::alloc::{AllocError, Global};
@@ -75,10 +78,10 @@ fn is_text_property(key: &str) -> bool
         || is_identity(key)
 }
 
-/// Why a property is refused.
-#[tactic(auto, unfolding(crate::specs::Shovels::property_refusal))]
-fn property_refusal(key: &str, value: &Value) -> Option<Refusal>
-    ensures { result ≡ shovels.property_refusal key.now (view value.now) }
+/// Why a property without a floating-point number is refused.
+#[tactic(auto, unfolding(crate::specs::Shovels::plain_refusal))]
+fn plain_refusal(key: &str, value: &Value) -> Option<Refusal>
+    ensures { result ≡ shovels.plain_refusal key.now (view value.now) }
 {
     if is_text_property(key) {
         return short_text_refusal(value);
@@ -95,26 +98,52 @@ fn property_refusal(key: &str, value: &Value) -> Option<Refusal>
     Some(Refusal::Shape)
 }
 
-/// Why the first refused property is refused.
-fn properties_refusal(map: &Map<String, Value>) -> Option<Refusal>
-    ensures { result ≡ shovels.properties_refusal (members_view map.now.entries) }
+/// Why a property is refused.
+#[tactic(auto, unfolding(crate::specs::Shovels::property_refusal))]
+fn property_refusal(key: &str, value: &Value) -> Option<Refusal>
+    ensures { result ≡ shovels.property_refusal key.now (view value.now) }
 {
-    for (key, value) in map.iter() {
-        if let Some(why) = property_refusal(key.as_str(), value) {
-            return Some(why);
-        }
+    if has_float(value) {
+        return Some(Refusal::Float);
     }
-    None
+    plain_refusal(key, value)
 }
 
-/// Why the value is refused as an object of properties.
-#[tactic(auto, unfolding(crate::specs::Shovels::props_refusal))]
-pub fn props_refusal(value: &Value) -> Option<Refusal>
-    ensures { result ≡ shovels.props_refusal (view value.now) }
+/// Checks a property.
+fn check_property(alloc: Global, key: &str, value: &Value) -> Result<(), KeyFault>
+    ensures ok { OnOk result (option_map (variant.Refused (key_step key.now))
+        (shovels.property_refusal key.now (view value.now)) ≡ None) }
+    ensures fault { IfErr result (λ fault. fault ≢ KeyFault.Memory → option_map (variant.Refused (key_step key.now))
+        (shovels.property_refusal key.now (view value.now)) ≡ Some fault) }
+{
+    match property_refusal(key, value) {
+        None => Ok(()),
+        Some(why) => Err(at_key(alloc, key, why)),
+    }
+}
+
+/// Checks the properties of an object.
+fn check_properties(alloc: Global, map: &Map<String, Value>) -> Result<(), KeyFault>
+    ensures ok { OnOk result (shovels.properties_fault (members_view map.now.entries) ≡ None) }
+    ensures fault { IfErr result (λ fault. fault ≢ KeyFault.Memory
+        → shovels.properties_fault (members_view map.now.entries) ≡ Some fault) }
+{
+    for (key, value) in map.iter() {
+        check_property(alloc, key.as_str(), value)?;
+    }
+    Ok(())
+}
+
+/// Checks an object of properties. The path of a fault begins at the value.
+#[tactic(auto, unfolding(crate::specs::Shovels::props_fault))]
+pub fn check_props(alloc: Global, value: &Value) -> Result<(), KeyFault>
+    ensures ok { OnOk result (shovels.props_fault (view value.now) ≡ None) }
+    ensures fault { IfErr result (λ fault. fault ≢ KeyFault.Memory
+        → shovels.props_fault (view value.now) ≡ Some fault) }
 {
     match value.as_object() {
-        Some(map) => properties_refusal(map),
-        None => Some(misfit(value)),
+        Some(map) => check_properties(alloc, map),
+        None => Err(here(alloc, misfit(value))),
     }
 }
 

@@ -4,12 +4,13 @@ ghost use Rattle.serde_json.specs.View.{view};
 ghost use Rattle.serde_json.specs.Find.{as_str, as_bool};
 ghost use Rattle.defs_values.specs.Values as values;
 ghost use Rattle.defs_values.specs.Shovels as shovels;
-ghost use Rattle.defs_values.specs.Keys.{value_at, optional_fault};
-ghost use Rattle.defs_values.specs.Shovels.{value_with, value_without, fault_with, fault_without};
+ghost use Rattle.defs_values.specs.Keys.{value_at, optional_fault, optional_within};
+ghost use Rattle.defs_values.specs.Shovels.{value_with, value_without, fault_with, fault_without, within_without};
 
 use crate::fault::KeyFault;
 use crate::keys::{number_at, refused, value_of};
-use crate::props::props_refusal;
+use crate::paths::within;
+use crate::props::check_props;
 use crate::setting::{check_protocol, read_delete, read_exchange, read_flag, read_short_text};
 use amqp_props::{DeleteAfter, Text};
 use serde_json::Value;
@@ -91,18 +92,18 @@ pub fn short_text_at(alloc: Global, value: &Value, key: &str) -> Result<Option<T
 }
 
 /// Checks the properties at the key.
-#[tactic(auto, unfolding(crate::specs::Keys::optional_fault))]
+#[tactic(auto, unfolding(crate::specs::Keys::optional_within))]
 pub fn check_props_at(alloc: Global, value: &Value, key: &str) -> Result<(), KeyFault>
-    ensures ok { OnOk result (optional_fault shovels.props_refusal key.now (view value.now) ≡ None) }
+    ensures ok { OnOk result (optional_within shovels.props_fault key.now (view value.now) ≡ None) }
     ensures fault { IfErr result (λ fault. fault ≢ KeyFault.Memory
-        → optional_fault shovels.props_refusal key.now (view value.now) ≡ Some fault) }
+        → optional_within shovels.props_fault key.now (view value.now) ≡ Some fault) }
 {
     let Some(found) = value_of(value, key) else {
         return Ok(());
     };
-    match props_refusal(found) {
-        None => Ok(()),
-        Some(why) => Err(refused(alloc, key, why)),
+    match check_props(alloc, found) {
+        Ok(()) => Ok(()),
+        Err(fault) => Err(within(alloc, key, fault)),
     }
 }
 
@@ -184,16 +185,16 @@ pub fn prefetch_without(
 }
 
 /// Checks the properties at the key, which is looked at only where the other key isn't there.
-#[tactic(auto, unfolding(crate::specs::Shovels::fault_without))]
+#[tactic(auto, unfolding(crate::specs::Shovels::within_without))]
 pub fn check_props_without(
     alloc: Global,
     value: &Value,
     other: &str,
     key: &str,
 ) -> Result<(), KeyFault>
-    ensures ok { OnOk result (fault_without shovels.props_refusal other.now key.now (view value.now) ≡ None) }
+    ensures ok { OnOk result (within_without shovels.props_fault other.now key.now (view value.now) ≡ None) }
     ensures fault { IfErr result (λ fault. fault ≢ KeyFault.Memory
-        → fault_without shovels.props_refusal other.now key.now (view value.now) ≡ Some fault) }
+        → within_without shovels.props_fault other.now key.now (view value.now) ≡ Some fault) }
 {
     if has_key(value, other) {
         return Ok(());

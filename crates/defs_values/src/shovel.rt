@@ -10,7 +10,7 @@ ghost use Rattle.defs_values.specs.Values.{number_in};
 ghost use Rattle.defs_values.specs.Shovels.{shovel_of, shovel_fault, value_with, value_without};
 
 use crate::fault::{KeyFault, Refusal, ValueFault};
-use crate::keys::{mode_at, number_at, refused, uris_at, value_of};
+use crate::keys::{mode_at, named, number_at, refused, uris_at, value_of};
 use crate::props::props_of;
 use crate::settings::{
     check_props_at, check_props_without, check_protocol_at, delete_at, delete_without, exchange_at,
@@ -341,6 +341,6 @@ pub fn read_shovel(alloc: Global, value: &Value) -> Result<ShovelDef, ValueFault
 {
     match read_keys(alloc, value) {
         Ok(shovel) => Ok(shovel),
-        Err(fault) => Err(ValueFault::from(fault)),
+        Err(fault) => Err(named(alloc, &fault)),
     }
 }

@@ -8,7 +8,7 @@ ghost use Rattle.defs_values.specs.Values.{IsAtMost, mode_at, number_in};
 ghost use Rattle.defs_values.specs.Upstreams.{most_hops, most_prefetch, most_delay, overrides_of, overrides_fault, upstream_of, upstream_fault};
 
 use crate::fault::{KeyFault, ValueFault};
-use crate::keys::{mode_at, name_at, number_at, uris_at};
+use crate::keys::{mode_at, name_at, named, number_at, uris_at};
 use amqp_props::{AckMode, Text};
 use fed_defs::{Overrides, UpstreamDef};
 use serde_json::Value;
@@ -144,6 +144,6 @@ pub fn read_upstream(alloc: Global, value: &Value) -> Result<UpstreamDef, ValueF
 {
     match read_keys(alloc, value) {
         Ok(upstream) => Ok(upstream),
-        Err(fault) => Err(ValueFault::from(fault)),
+        Err(fault) => Err(named(alloc, &fault)),
     }
 }

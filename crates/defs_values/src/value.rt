@@ -1,13 +1,14 @@
 //! What single values may be.
 ghost use Rattle.std.specs.Prelude.{◌≡◌, ◌≢◌, ◌≤◌, None, Some, IfOk, OnOk, IfErr, MatchResult};
-ghost use Rattle.serde_json.specs.View.{view};
+ghost use Rattle.serde_json.specs.View.{view, items_view, members_view};
 ghost use Rattle.serde_json.specs.Find.{as_str};
+ghost use Rattle.serde_json.specs.Written as written;
 ghost use Rattle.defs_values.specs.Values as values;
 ghost use Rattle.fed_defs.specs.Texts as texts;
 
 use crate::fault::Refusal;
 use amqp_props::{AckMode, Text};
-use serde_json::Value;
+use serde_json::{Map, Value};
 use std::alloc::Global;
 
 /// Why a value of another kind is refused.
@@ -15,6 +16,56 @@ pub fn misfit(value: &Value) -> Refusal
     ensures { result ≡ values.misfit (view value.now) }
 {
     if value.is_f64() {
+        Refusal::Float
+    } else {
+        Refusal::Shape
+    }
+}
+
+/// Whether a value has a floating-point number in it, at any depth.
+#[cycle(floats)]
+pub fn has_float(value: &Value) -> bool
+    ensures { result ≡ written.has_float (view value.now) }
+{
+    match value {
+        Value::Null | Value::Bool(_) | Value::String(_) => false,
+        Value::Number(_) => value.is_f64(),
+        Value::Array(items) => items_have_float(items),
+        Value::Object(map) => members_have_float(map),
+    }
+}
+
+/// Whether an item of a list has one.
+#[cycle(floats)]
+fn items_have_float(items: &Vec<Value>) -> bool
+    ensures { result ≡ written.items_have_float (items_view items.now.items) }
+{
+    for item in items {
+        if has_float(item) {
+            return true;
+        }
+    }
+    false
+}
+
+/// Whether a value of an object has one.
+#[cycle(floats)]
+fn members_have_float(map: &Map<String, Value>) -> bool
+    ensures { result ≡ written.members_have_float (members_view map.now.entries) }
+{
+    for (_, value) in map.iter() {
+        if has_float(value) {
+            return true;
+        }
+    }
+    false
+}
+
+/// Why a value of another kind is refused within a list or an object that is read.
+pub fn deep_misfit(value: &Value) -> Refusal
+    ensures { result ≡ values.deep_misfit (view value.now) }
+{
+    if has_float(value) {
         Refusal::Float
     } else {
         Refusal::Shape

@@ -1,0 +1,13 @@
+-- What is left has a floating-point number where all has one.
+use Rattle.std.proofs.Common.{◌≡◌, drop}
+use Rattle.serde_json.specs.View.{items_view, members_view}
+use Rattle.serde_json.specs.Written.{items_have_float, members_have_float}
+use Rattle.defs_values.proofs.value.+floats.Given as goal
+
+abbrev pub invariant-items_have_float-loop-item : goal.invariant-items_have_float-loop-item
+invariant-items_have_float-loop-item l =
+    items_have_float (items_view (drop l.item-index l.items.items)) ≡ items_have_float (items_view l.items.items)
+
+abbrev pub invariant-members_have_float-loop-value : goal.invariant-members_have_float-loop-value
+invariant-members_have_float-loop-value l =
+    members_have_float (members_view l.value-iterator) ≡ members_have_float (members_view l.fn.map.entries)
