@@ -6,6 +6,7 @@ pub mod Events
 pub mod Flight
 pub mod Holders
 pub mod Holds
+pub mod Limits
 pub mod Links
 pub mod Messages
 pub mod Names

@@ -2,7 +2,7 @@
 ghost use Rattle.std.specs.Prelude.{◌≡◌, ◌++◌, ◌≤◌, All, IfOk, OnOk, OnErr, flat_map, length};
 ghost use Rattle.std.specs.Option.{option_to_list};
 ghost use Rattle.fed_journal.specs.Copies.{IsFitting};
-ghost use Rattle.fed_journal.specs.declared.journal.TheConstants.{MAX_ENTRIES};
+ghost use Rattle.fed_journal.specs.Limits.{most_entries};
 ghost use Rattle.fed_status.specs.Bindings.{binding_lines};
 ghost use Rattle.fed_status.specs.Links.{link_line};
 ghost use Rattle.fed_status.specs.Listing.{object_lines, listing};
@@ -67,7 +67,7 @@ fn push_bindings(
     page: &mut Page,
 ) -> Result<(), AllocError>
     requires fits { All IsFitting journal.now }
-    requires within { length journal.now ≤ MAX_ENTRIES }
+    requires within { length journal.now ≤ most_entries }
     ensures { OnOk result (page.new ≡ page.old ++ flat_map (binding_lines journal.now) places.now) }
 {
     for place in places {
@@ -95,7 +95,7 @@ fn push_links(
 #[tactic(auto, unfolding(crate::specs::Listing::object_lines))]
 fn object_page(alloc: Global, journal: &[Entry]) -> Result<Page, AllocError>
     requires fits { All IsFitting journal.now }
-    requires within { length journal.now ≤ MAX_ENTRIES }
+    requires within { length journal.now ≤ most_entries }
     ensures { IfOk result (λ page. page ≡ object_lines journal.now) }
 {
     let places = places_of(alloc, journal)?;
@@ -109,7 +109,7 @@ fn object_page(alloc: Global, journal: &[Entry]) -> Result<Page, AllocError>
 #[tactic(auto, unfolding(crate::specs::Listing::listing))]
 fn listing_page(alloc: Global, journal: &[Entry]) -> Result<Page, AllocError>
     requires fits { All IsFitting journal.now }
-    requires within { length journal.now ≤ MAX_ENTRIES }
+    requires within { length journal.now ≤ most_entries }
     ensures { IfOk result (λ page. page ≡ listing journal.now) }
 {
     let links = links_of(alloc, journal)?;
@@ -129,7 +129,7 @@ pub fn push_object_lines(
     page: &mut Page,
 ) -> Result<(), AllocError>
     requires fits { All IsFitting journal.now }
-    requires within { length journal.now ≤ MAX_ENTRIES }
+    requires within { length journal.now ≤ most_entries }
     ensures lines { OnOk result (page.new ≡ page.old ++ object_lines journal.now) }
     ensures untouched { OnErr result (page.new ≡ page.old) }
 {
@@ -144,7 +144,7 @@ pub fn push_object_lines(
 /// For want of memory, and nothing is appended then.
 pub fn push_listing(alloc: Global, journal: &[Entry], page: &mut Page) -> Result<(), AllocError>
     requires fits { All IsFitting journal.now }
-    requires within { length journal.now ≤ MAX_ENTRIES }
+    requires within { length journal.now ≤ most_entries }
     ensures listing { OnOk result (page.new ≡ page.old ++ listing journal.now) }
     ensures untouched { OnErr result (page.new ≡ page.old) }
 {

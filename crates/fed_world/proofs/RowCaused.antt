@@ -32,7 +32,8 @@ use Rattle.fed_world.specs.Deliver.{is_busy, deliver_to, deliver_row}
 use Rattle.fed_world.specs.Get.{get_row}
 use Rattle.fed_world.specs.Purge.{purge_row}
 use Rattle.fed_world.specs.Close.{close_row}
-use Rattle.fed_world.specs.Declare.{declare_row, declared_queue, same_options, declare_exchange_row, declared_exchange, same_shape, is_exchange_refused, stands, is_refused, lasting}
+use Rattle.client_rules.specs.Alike.{same_options, same_shape}
+use Rattle.fed_world.specs.Declare.{declare_row, declared_queue, declare_exchange_row, declared_exchange, is_exchange_refused, stands, is_refused, lasting}
 use Rattle.fed_world.specs.Publish.{publish_row, publish_refusal}
 use Rattle.amqp_props.specs.declared.link.QueueOptions.{QueueOptions}
 use Rattle.amqp_props.specs.declared.message.Message.{Message}

@@ -32,7 +32,8 @@ use Rattle.fed_world.specs.Deliver.{is_busy, deliver_to, deliver_row}
 use Rattle.fed_world.specs.Get.{get_row}
 use Rattle.fed_world.specs.Purge.{purge_row}
 use Rattle.fed_world.specs.Close.{close_row}
-use Rattle.fed_world.specs.Declare.{declare_row, declared_queue, same_options, declare_exchange_row, declared_exchange, same_shape, is_exchange_refused, stands, is_refused, lasting}
+use Rattle.client_rules.specs.Alike.{same_options, same_shape}
+use Rattle.fed_world.specs.Declare.{declare_row, declared_queue, declare_exchange_row, declared_exchange, is_exchange_refused, stands, is_refused, lasting}
 use Rattle.fed_world.specs.Publish.{publish_row, publish_refusal, published, first_copy}
 use Rattle.amqp_props.specs.declared.link.QueueOptions.{QueueOptions}
 use Rattle.route_core.specs.declared.binding.Binding.{Binding}
@@ -49,7 +50,7 @@ use Rattle.fed_world.specs.Accept.{accept_row, accept_first, accepted}
 use Rattle.fed_world.specs.Confirm.{confirm_row, confirm_first, confirmed}
 use Rattle.fed_world.specs.Note.{note_row}
 use Rattle.fed_world.specs.Settle.{settle_row}
-use Rattle.fed_journal.specs.declared.journal.TheConstants.{MAX_ENTRIES}
+use Rattle.fed_journal.specs.Limits.{most_entries}
 use Rattle.field_tables.specs.Tables.{IsTable}
 use Rattle.fed_journal.specs.Events.{IsWritable}
 use Rattle.fed_journal.specs.SiteLaws.{routes-few}
@@ -171,10 +172,10 @@ routes-fit : (J : List Entry) (queues : List (List ℕ)) → length queues ≤ 2
 routes-fit J [] few small = omega arith
 routes-fit J (q ∷ qs) few small = omega (arith, few, small)
 
-published-fits : (J : List Entry) (p : Place) (by : Publisher) (m : Message) → IsMessage m → length J ≤ MAX_ENTRIES → copy_count J < 2 ^ 63 → FitsEntry J (published J p by m)
+published-fits : (J : List Entry) (p : Place) (by : Publisher) (m : Message) → IsMessage m → length J ≤ most_entries → copy_count J < 2 ^ 63 → FitsEntry J (published J p by m)
 published-fits J p by m t within small = (routes-fit J (routes J p m) (omega (arith, routes-few J p m, within)) small, t)
 
-publish_row-fits : (J : List Entry) (p : Place) (client : ℕ) (m : Message) → IsMessage m → length J ≤ MAX_ENTRIES → copy_count J < 2 ^ 63 → RowFits J (publish_row J p client m)
+publish_row-fits : (J : List Entry) (p : Place) (client : ℕ) (m : Message) → IsMessage m → length J ≤ most_entries → copy_count J < 2 ^ 63 → RowFits J (publish_row J p client m)
 unfolding publish_row
 publish_row-fits J p client m t within small =
     at_place-fits J p _ (unless_refused-fits J (publish_refusal J p m.exchange) _ (published-fits J p (Client (channel_of client)) m t within small, tt))
@@ -197,16 +198,16 @@ source-sized c (Published x ∷ J) h =
     ]
 source-sized c (e ∷ J) h = source-sized c J (All-tail IsSized e J h)
 
-accepted-fits : (J : List Entry) (spec : LinkSpec) (c : ℕ) (target : Option Place) (x : Option Publication) → IsSizedSource x → length J ≤ MAX_ENTRIES → copy_count J < 2 ^ 63 → RowFits J (accepted J spec c target x)
+accepted-fits : (J : List Entry) (spec : LinkSpec) (c : ℕ) (target : Option Place) (x : Option Publication) → IsSizedSource x → length J ≤ most_entries → copy_count J < 2 ^ 63 → RowFits J (accepted J spec c target x)
 accepted-fits J spec c (Some target) (Some x) t within small = (published-fits J target (Link spec.name (session J spec.name) c) (outgoing spec x.message) (outgoing-sized spec x.message t) within small, tt)
 accepted-fits J spec c (Some target) None t within small = tt
 accepted-fits J spec c None x t within small = tt
 
-accept_first-fits : (J : List Entry) (spec : LinkSpec) (c : Option ℕ) → All IsSized J → length J ≤ MAX_ENTRIES → copy_count J < 2 ^ 63 → RowFits J (accept_first J spec c)
+accept_first-fits : (J : List Entry) (spec : LinkSpec) (c : Option ℕ) → All IsSized J → length J ≤ most_entries → copy_count J < 2 ^ 63 → RowFits J (accept_first J spec c)
 accept_first-fits J spec None sized within small = tt
 accept_first-fits J spec (Some c) sized within small = accepted-fits J spec c spec.target (publication_of c J) (source-sized c J sized) within small
 
-accept_row-fits : (J : List Entry) (l : List ℕ) → All IsSized J → length J ≤ MAX_ENTRIES → copy_count J < 2 ^ 63 → RowFits J (accept_row J l)
+accept_row-fits : (J : List Entry) (l : List ℕ) → All IsSized J → length J ≤ most_entries → copy_count J < 2 ^ 63 → RowFits J (accept_row J l)
 unfolding accept_row
 accept_row-fits J l sized within small =
     with_link-fits J l _ (λ spec. while_open-fits J l _ (accept_first-fits J spec (oldest (flight_sent J l (session J l))) sized within small))
@@ -264,7 +265,7 @@ unfolding open_row
 open_row-fits J l h = with_link-fits J l _ (λ spec. open_if_startable-fits J spec spec.start (h spec.name))
 
 -- whatever the event, its entries fit
-pub next-fits : (J : List Entry) (e : Event) → IsWritable e → length J ≤ MAX_ENTRIES → copy_count J < 2 ^ 63 → ((k : List ℕ) → session J k ≤ length J) → All IsSized J → RowFits J (next J e)
+pub next-fits : (J : List Entry) (e : Event) → IsWritable e → length J ≤ most_entries → copy_count J < 2 ^ 63 → ((k : List ℕ) → session J k ≤ length J) → All IsSized J → RowFits J (next J e)
 next-fits J (DeclareQueue p c q options) w within small h sized = declare_row-fits J p c q options
 next-fits J (DeclareExchange p c x shape) w within small h sized = declare_exchange_row-fits J p x shape
 next-fits J (Bind p c b) w within small h sized = bind_row-fits J p c b w

@@ -34,7 +34,8 @@ use Rattle.fed_journal.specs.Phases.{phase, session, is_open}
 use Rattle.broker_view.specs.Suits.{is_begun, Suits, EachSuits}
 use Rattle.fed_world.specs.declared.reason.Reason.TheVariants as why
 use Rattle.fed_world.specs.Row.{Row, oldest, lock_refusal, queue_refusal, channel_of}
-use Rattle.fed_world.specs.Declare.{declare_row, declared_queue, same_options, declare_exchange_row, declared_exchange, same_shape, is_exchange_refused, stands, is_refused, lasting}
+use Rattle.client_rules.specs.Alike.{same_options, same_shape}
+use Rattle.fed_world.specs.Declare.{declare_row, declared_queue, declare_exchange_row, declared_exchange, is_exchange_refused, stands, is_refused, lasting}
 use Rattle.fed_world.specs.Bind.{bind_refusal, bind_row, unbind_row}
 use Rattle.fed_world.specs.Publish.{publish_row, publish_refusal, publication, published}
 use Rattle.fed_world.specs.Consume.{consumes, consume_row, cancel_row}

@@ -24,7 +24,8 @@ use Rattle.fed_world.specs.Row.{oldest, lock_refusal, queue_refusal}
 use Rattle.fed_world.specs.Answer.{answer_refusal, requeue_row}
 use Rattle.fed_world.specs.Consume.{consumes, consume_row, cancel_row}
 use Rattle.fed_world.specs.Close.{close_row}
-use Rattle.fed_world.specs.Declare.{declare_row, declared_queue, same_options, declare_exchange_row, declared_exchange, same_shape, is_exchange_refused, stands, is_refused}
+use Rattle.client_rules.specs.Alike.{same_options, same_shape}
+use Rattle.fed_world.specs.Declare.{declare_row, declared_queue, declare_exchange_row, declared_exchange, is_exchange_refused, stands, is_refused}
 use Rattle.fed_world.specs.Publish.{publish_row, publish_refusal}
 use Rattle.amqp_props.specs.declared.link.QueueOptions.{QueueOptions}
 use Rattle.amqp_props.specs.declared.message.Message.{Message}

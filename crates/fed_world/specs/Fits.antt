@@ -23,7 +23,7 @@ abbrev pub RowFits : List Entry → Row → Type 0
 RowFits J (Ok entries) = EachFits J entries
 RowFits J (Err reason) = Unit {0}
 
--- what the entries need is in the journal before them
+-- a row suits the journal: what each of its entries needs is in the journal before it
 abbrev pub RowSuits : List Entry → Row → Type 0
 RowSuits J (Ok entries) = EachSuits J entries
 RowSuits J (Err reason) = Unit {0}

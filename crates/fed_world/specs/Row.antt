@@ -11,7 +11,7 @@ use Rattle.fed_journal.specs.Phases.{phase, is_open}
 use Rattle.fed_world.specs.declared.reason.Reason.{Reason}
 use Rattle.fed_world.specs.declared.reason.Reason.TheVariants.{NoPlace, NoLink, NotOpen, Empty, Refused}
 
--- the entries, or the reason
+-- what the rule of an event answers, a row of the table of rules: the entries that are appended, or the reason why it doesn't happen now
 abbrev pub Row : Type 0
 Row = Result (List Entry) Reason
 

@@ -2,24 +2,17 @@
 ghost use Rattle.std.specs.Prelude.{◌≡◌, true, IfOk};
 ghost use Rattle.fed_journal.specs.Configuration.{is_place};
 ghost use Rattle.fed_world.specs.RowOf.{row_of};
-ghost use Rattle.fed_world.specs.Bind.{is_unbindable, stands_as, end_refusal, bind_refusal, bind_row, unbind_row};
+ghost use Rattle.fed_world.specs.Bind.{stands_as, end_refusal, bind_refusal, bind_row, unbind_row};
 
 use crate::reason::Reason;
 use crate::row::{Row, lock_refusal, nothing, one};
 use amqp_props::Text;
 use broker_view::run::Run;
-use client_rules::is_reserved;
+use client_rules::is_unbindable;
 use fed_journal::entry::Entry;
 use fed_journal::place::Place;
 use route_core::{Binding, Sort};
 use std::alloc::{AllocError, Global};
-
-/// Whether no client can bind what has this name.
-fn is_unbindable(name: &Text) -> bool
-    ensures { result ≡ is_unbindable name.now }
-{
-    name.as_str().is_empty() || is_reserved(name.as_str())
-}
 
 /// Whether a queue or an exchange of that name stands.
 fn stands_as(run: &Run<'_>, place: &Place, sort: Sort, name: &Text) -> bool
@@ -48,7 +41,7 @@ fn bind_refusal(run: &Run<'_>, place: &Place, client: u16, binding: &Binding) ->
     requires { is_place run.now place.now ≡ true }
     ensures { result ≡ bind_refusal run.now place.now client binding.now }
 {
-    if is_unbindable(&binding.source) || is_unbindable(&binding.dest) {
+    if is_unbindable(binding.source.as_str()) || is_unbindable(binding.dest.as_str()) {
         Some(Reason::Refused(403))
     } else if stands_as(run, place, Sort::Exchange, &binding.source)
         && stands_as(run, place, binding.sort, &binding.dest)

@@ -2,16 +2,15 @@
 ghost use Rattle.std.specs.Prelude.{◌≡◌, true, IfOk};
 ghost use Rattle.fed_journal.specs.Configuration.{is_place};
 ghost use Rattle.fed_world.specs.RowOf.{row_of};
-ghost use Rattle.fed_world.specs.Declare.{declare_row, owner_by, declared_queue, same_options, lasting, stands, is_broker_name, is_refused, same_kind, same_shape, is_exchange_refused, declared_exchange, declare_exchange_row};
+ghost use Rattle.fed_world.specs.Declare.{declare_row, declared_queue, lasting, stands, is_refused, is_exchange_refused, declared_exchange, declare_exchange_row};
 
 use crate::reason::Reason;
-use crate::row::{Row, lock_refusal, nothing, one};
-use amqp_props::{ExchangeKind, QueueOptions, Text};
+use crate::row::{Row, channel_of, lock_refusal, nothing, one};
+use amqp_props::{QueueOptions, Text};
 use broker_view::run::Run;
-use client_rules::is_reserved;
+use client_rules::{is_refused_exchange, is_refused_queue, owner_of, same_options, same_shape};
 use fed_journal::entry::Entry;
 use fed_journal::place::{ExchangeShape, Place};
-use fed_journal::text::begins_with;
 use std::alloc::{AllocError, Global};
 
 /// The options of a durable queue that is shared and stays.
@@ -29,21 +28,12 @@ pub(crate) fn stands(run: &Run<'_>, place: &Place, queue: &Text) -> bool
     run.queue_options(place, queue).is_some()
 }
 
-/// Whether the name is one of the broker's own, other than a generated one.
-fn is_broker_name(queue: &Text) -> bool
-    ensures { result ≡ is_broker_name queue.now }
-{
-    begins_with(queue, b"amq.") && !begins_with(queue, b"amq.gen-")
-}
-
 /// Whether the broker refuses a client to declare a queue of that name.
 fn is_refused(run: &Run<'_>, place: &Place, queue: &Text) -> bool
     requires { is_place run.now place.now ≡ true }
     ensures { result ≡ is_refused run.now place.now queue.now }
 {
-    queue.as_str().is_empty()
-        || is_reserved(queue.as_str())
-        || (is_broker_name(queue) && !stands(run, place, queue))
+    is_refused_queue(queue.as_str(), stands(run, place, queue))
 }
 
 /// The row of a queue's declaration, by what it was declared with before.
@@ -71,29 +61,9 @@ fn declared_queue(
             place,
             queue,
             options,
-            owner: owner_by(client, options),
+            owner: owner_of(channel_of(client), options),
         },
     )
-}
-
-/// The connection to which a queue of these options belongs, where the client declares it.
-fn owner_by(client: u16, options: QueueOptions) -> Option<u32>
-    ensures { result ≡ owner_by client options }
-{
-    if options.exclusive {
-        Some(u32::from(client))
-    } else {
-        None
-    }
-}
-
-/// Whether two queues are declared alike.
-fn same_options(one: QueueOptions, other: QueueOptions) -> bool
-    ensures { result ≡ same_options one other }
-{
-    one.durable == other.durable
-        && one.exclusive == other.exclusive
-        && one.auto_delete == other.auto_delete
 }
 
 /// The row of a queue's `declare`.
@@ -127,36 +97,15 @@ pub fn declare_row(
     )
 }
 
-/// Whether two exchanges are of one type.
-fn same_kind(one: ExchangeKind, other: ExchangeKind) -> bool
-    ensures { result ≡ same_kind one other }
-{
-    matches!(
-        (one, other),
-        (ExchangeKind::Direct, ExchangeKind::Direct)
-            | (ExchangeKind::Fanout, ExchangeKind::Fanout)
-            | (ExchangeKind::Headers, ExchangeKind::Headers)
-            | (ExchangeKind::Topic, ExchangeKind::Topic)
-    )
-}
-
-/// Whether two exchanges are declared alike.
-fn same_shape(one: ExchangeShape, other: ExchangeShape) -> bool
-    ensures { result ≡ same_shape one other }
-{
-    same_kind(one.kind, other.kind)
-        && one.durable == other.durable
-        && one.internal == other.internal
-}
-
 /// Whether the broker refuses a client to declare an exchange of that name.
 fn is_exchange_refused(run: &Run<'_>, place: &Place, exchange: &Text) -> bool
     requires { is_place run.now place.now ≡ true }
     ensures { result ≡ is_exchange_refused run.now place.now exchange.now }
 {
-    exchange.as_str().is_empty()
-        || is_reserved(exchange.as_str())
-        || (begins_with(exchange, b"amq.") && run.exchange_shape(place, exchange).is_none())
+    is_refused_exchange(
+        exchange.as_str(),
+        run.exchange_shape(place, exchange).is_some(),
+    )
 }
 
 /// The row of an exchange's declaration, by what it was declared as before.

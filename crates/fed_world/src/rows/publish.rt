@@ -3,7 +3,7 @@ ghost use Rattle.std.specs.Prelude.{◌≡◌, ◌+◌, ◌≤◌, true, IfOk, L
 ghost use Rattle.fed_journal.specs.Configuration.{is_place};
 ghost use Rattle.fed_journal.specs.Copies.{publication_count, copy_count};
 ghost use Rattle.fed_journal.specs.declared.entry.Entry.{Entry};
-ghost use Rattle.fed_journal.specs.declared.journal.TheConstants.{MAX_ENTRIES};
+ghost use Rattle.fed_journal.specs.Limits.{most_entries};
 ghost use Rattle.fed_world.specs.RowOf.{row_of};
 ghost use Rattle.fed_world.specs.Publish.{publish_row, publish_refusal, shape_refusal, published, first_copy};
 
@@ -40,7 +40,7 @@ pub(crate) fn published(
 ) -> Result<Entry, AllocError>
     requires publication { next.publication ≡ publication_count run.now + 1 }
     requires copy { next.copy ≡ copy_count run.now + 1 }
-    requires within { length run.now ≤ MAX_ENTRIES }
+    requires within { length run.now ≤ most_entries }
     requires place { is_place run.now place.now ≡ true }
     ensures { IfOk result (λ entry. entry ≡ published run.now place.now by message) }
 {
@@ -100,7 +100,7 @@ pub fn publish_row(
 ) -> Result<Row, AllocError>
     requires publication { next.publication ≡ publication_count run.now + 1 }
     requires copy { next.copy ≡ copy_count run.now + 1 }
-    requires within { length run.now ≤ MAX_ENTRIES }
+    requires within { length run.now ≤ most_entries }
     ensures { IfOk result (λ row. row_of row ≡ publish_row run.now place.now client message.now) }
 {
     if !run.is_place(place) {
