@@ -52,11 +52,7 @@ fn add_host(alloc: Global, hosts: &mut Vec<Host>, broker: &Text) -> Result<(), A
 /// # Errors
 ///
 /// For want of memory.
-fn record_each(
-    alloc: Global,
-    hosts: &mut Vec<Host>,
-    entry: &Entry,
-) -> Result<(), AllocError>
+fn record_each(alloc: Global, hosts: &mut Vec<Host>, entry: &Entry) -> Result<(), AllocError>
     requires recordable { All (λ host. IsRecordable host entry.now) hosts.old.items }
     requires tellable { All (λ host. IsTellable host entry.now) hosts.old.items }
     requires fits { IsFitting entry.now }
@@ -73,11 +69,7 @@ fn record_each(
 /// # Errors
 ///
 /// For want of memory.
-fn record_entry(
-    alloc: Global,
-    hosts: &mut Vec<Host>,
-    entry: &Entry,
-) -> Result<(), AllocError>
+fn record_entry(alloc: Global, hosts: &mut Vec<Host>, entry: &Entry) -> Result<(), AllocError>
     requires next { IsNext hosts.old.items entry.now }
     requires fits { IsFitting entry.now }
     ensures { OnOk result (LeadsOn hosts.old.items entry.now hosts.new.items) }

@@ -116,7 +116,7 @@ impl<'a> Run<'a> {
     }
 
     /// The virtual host of the place; None exactly where the place isn't one of the run.
-    fn vhost(&self, place: &Place) -> Option<&'a Vhost>
+    pub(crate) fn vhost(&self, place: &Place) -> Option<&'a Vhost>
         ensures known { is_some result ≡ is_place_of self.now place.now }
         ensures view { IfSome result (λ vhost. IsView self.now place.now vhost.now) }
     {

@@ -23,25 +23,24 @@ use Rattle.fed_journal.specs.Holds.{first_ready, ready_count}
 use Rattle.fed_journal.specs.Consumers.{Consumer, consumer}
 use Rattle.fed_journal.specs.Outgoing.{outgoing}
 use Rattle.fed_journal.specs.Flight.{flight_took, flight_sent, flight_published, flight_confirmed, flight_noted}
-use Rattle.fed_world.specs.declared.reason.Reason.{Reason}
-use Rattle.fed_world.specs.declared.reason.Reason.TheVariants as why
-use Rattle.fed_world.specs.Row.{Row, at_place, with_link, with_spec, while_open, unless_refused, lock_refusal, queue_refusal, channel_of, one_or_empty, oldest}
-use Rattle.fed_world.specs.Answer.{answer_refusal, ack_row, reject_row, requeue_row}
-use Rattle.fed_world.specs.Consume.{consumes, consume_row, cancel_row}
-use Rattle.fed_world.specs.Deliver.{is_busy, deliver_to, deliver_row}
-use Rattle.fed_world.specs.Get.{get_row}
-use Rattle.fed_world.specs.Purge.{purge_row}
-use Rattle.fed_world.specs.Close.{close_row}
-use Rattle.client_rules.specs.Alike.{same_options, same_shape}
-use Rattle.fed_world.specs.Declare.{declare_row, declared_queue, declare_exchange_row, declared_exchange, is_exchange_refused, stands, is_refused, lasting}
-use Rattle.fed_world.specs.Publish.{publish_row, publish_refusal, published, first_copy}
+use Rattle.fed_journal.specs.declared.reason.Reason.{Reason}
+use Rattle.fed_journal.specs.declared.reason.Reason.TheVariants as why
+use Rattle.fed_journal.specs.Row.{Row, at_place, with_link, with_spec, while_open, unless_refused, lock_refusal, queue_refusal, channel_of, one_or_empty, oldest, made_row}
+use Rattle.fed_journal.specs.Answer.{answer_refusal, ack_row, reject_row, requeue_row}
+use Rattle.fed_journal.specs.Consume.{consumes, consume_row, cancel_row}
+use Rattle.fed_journal.specs.Deliver.{is_busy, deliver_to, deliver_row}
+use Rattle.fed_journal.specs.Get.{get_row}
+use Rattle.fed_journal.specs.Purge.{purge_row}
+use Rattle.fed_journal.specs.Close.{close_row}
+use Rattle.fed_journal.specs.Declare.{declare_row, queue_declared, declare_exchange_row, exchange_declared, stands, lasting}
+use Rattle.fed_journal.specs.Publish.{publish_row, publish_refusal, published, first_copy}
 use Rattle.amqp_props.specs.declared.link.QueueOptions.{QueueOptions}
 use Rattle.route_core.specs.declared.binding.Binding.{Binding}
 use Rattle.client_rules.specs.declared.client.ExchangeShape.{ExchangeShape}
 use Rattle.fed_journal.specs.Configuration.{queue_options, exchange_shape, queues_owned}
 use Rattle.fed_journal.specs.Routes.{is_bound, routes}
-use Rattle.fed_world.specs.Bind.{bind_refusal, bind_row, unbind_row}
-use Rattle.fed_world.specs.Flush.{flush_row}
+use Rattle.fed_journal.specs.Bind.{bind_refusal, bind_row, unbind_row}
+use Rattle.fed_journal.specs.Flush.{flush_row}
 use Rattle.fed_world.specs.SetShovel.{set_shovel_row}
 use Rattle.fed_world.specs.Open.{open_row, opened, is_source_locked, open_if_startable, made_if, is_target_missing}
 use Rattle.fed_world.specs.Take.{take_row, is_full, first_ready_at}
@@ -139,23 +138,20 @@ set_shovel_row-fits J p name shovel =
     at_place-fits J p _
     (elim (is_shovel_set J p name) as (λ v. RowFits J (if v then Ok [] else Ok (ShovelSet p name shovel ∷ []))) [ true ↦ tt | false ↦ (tt, tt) ])
 
-declared_queue-fits : (J : List Entry) (p : Place) (client : ℕ) (q : List ℕ) (options : QueueOptions) (was : Option QueueOptions) → RowFits J (declared_queue p client q options was)
-declared_queue-fits J p client q options None = (tt, tt)
-declared_queue-fits J p client q options (Some was) = either-fits J (same_options was options) (Ok []) (Err (why.Refused 406)) tt tt
+made-fits : (J : List Entry) (entry : Entry) (answer : Result Bool Reason) → FitsEntry J entry → RowFits J (made_row entry answer)
+made-fits J entry (Ok true) fits = (fits, tt)
+made-fits J entry (Ok false) fits = tt
+made-fits J entry (Err reason) fits = tt
 
 declare_row-fits : (J : List Entry) (p : Place) (client : ℕ) (q : List ℕ) (options : QueueOptions) → RowFits J (declare_row J p client q options)
 unfolding declare_row
 declare_row-fits J p client q options =
-    at_place-fits J p _ (either-fits J (is_refused J p q) _ _ tt (unless_refused-fits J (lock_refusal J p client q) _ (declared_queue-fits J p client q options (queue_options J p q))))
-
-declared_exchange-fits : (J : List Entry) (p : Place) (x : List ℕ) (shape : ExchangeShape) (was : Option ExchangeShape) → RowFits J (declared_exchange p x shape was)
-declared_exchange-fits J p x shape None = (tt, tt)
-declared_exchange-fits J p x shape (Some was) = either-fits J (same_shape was shape) (Ok []) (Err (why.Refused 406)) tt tt
+    at_place-fits J p _ (made-fits J _ (queue_declared J p client q options) tt)
 
 declare_exchange_row-fits : (J : List Entry) (p : Place) (x : List ℕ) (shape : ExchangeShape) → RowFits J (declare_exchange_row J p x shape)
 unfolding declare_exchange_row
 declare_exchange_row-fits J p x shape =
-    at_place-fits J p _ (either-fits J (is_exchange_refused J p x) _ _ tt (declared_exchange-fits J p x shape (exchange_shape J p x)))
+    at_place-fits J p _ (made-fits J _ (exchange_declared J p x shape) tt)
 
 bind_row-fits : (J : List Entry) (p : Place) (client : ℕ) (b : Binding) → IsTable b.args → RowFits J (bind_row J p client b)
 unfolding bind_row

@@ -5,7 +5,7 @@ use Rattle.fed_journal.specs.declared.entry.Entry.{Entry}
 use Rattle.fed_journal.specs.declared.entry.Entry.TheVariants.{Published, Bound, Opened}
 use Rattle.fed_journal.specs.Sizes.{IsMessage}
 use Rattle.broker_view.specs.Suits.{EachSuits}
-use Rattle.fed_world.specs.Row.{Row}
+use Rattle.fed_journal.specs.Row.{Row}
 
 -- the numbers that the entry brings fit their types, its message is one that can be sent, and its arguments are a field table
 abbrev pub FitsEntry : List Entry → Entry → Type 0

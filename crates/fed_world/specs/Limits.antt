@@ -8,7 +8,7 @@ use Rattle.fed_journal.specs.Links.{links_of}
 use Rattle.fed_journal.specs.Sizes.{byte_count}
 use Rattle.fed_world.specs.declared.reason.StepFault.{StepFault}
 use Rattle.fed_world.specs.declared.reason.StepFault.TheVariants.{Links, Entries, Bytes}
-use Rattle.fed_world.specs.Row.{Row}
+use Rattle.fed_journal.specs.Row.{Row}
 
 -- the limit that the journal would pass with these entries: first that of links in the configuration then, then that of entries, then that of octets of messages
 abbrev pub limit_of : List Entry → List Entry → Option StepFault

@@ -4,11 +4,11 @@ use Rattle.std.specs.Fmt.{decimal}
 use Rattle.fed_journal.specs.declared.entry.Entry.{Entry}
 use Rattle.fed_journal.specs.declared.event.Event.{Event}
 use Rattle.fed_journal.specs.declared.event.Event.TheVariants.{Show}
-use Rattle.fed_world.specs.declared.reason.Reason.{Reason}
-use Rattle.fed_world.specs.declared.reason.Reason.TheVariants.{NoPlace, NoLink, NoBroker, NameTooLong, NoSource, Full, Live, NotOpen, Empty, Unsecured, NoConsumer, Busy, NotHeld, Refused}
+use Rattle.fed_journal.specs.declared.reason.Reason.{Reason}
+use Rattle.fed_journal.specs.declared.reason.Reason.TheVariants.{NoPlace, NoLink, NoBroker, NameTooLong, NoSource, Full, Live, NotOpen, Empty, Unsecured, NoConsumer, Busy, NotHeld, Refused}
 use Rattle.fed_world.specs.declared.reason.StepFault.{StepFault}
 use Rattle.fed_world.specs.Limits.{limit_passed}
-use Rattle.fed_world.specs.Row.{Row}
+use Rattle.fed_journal.specs.Row.{Row}
 use Rattle.fed_world.specs.Run.{Moment, run}
 use Rattle.fed_status.specs.Listing.{listing}
 use Rattle.fed_world.specs.declared.reason.StepFault.TheVariants as faults

@@ -12,8 +12,9 @@ use crate::ending::{Ending, RunLimit};
 use amqp_props::Text;
 use fed_journal::event::Event;
 use fed_journal::page::Page;
+use fed_journal::reason::Reason;
 use fed_status::listing::push_listing;
-use fed_world::reason::{Outcome, Reason, StepFault};
+use fed_world::reason::{Outcome, StepFault};
 use fed_world::world::World;
 use std::alloc::{AllocError, Global};
 

@@ -8,7 +8,6 @@ ghost use Rattle.fed_world.specs.Ends.{IsEnd};
 ghost use Rattle.fed_world.specs.RowOf.{row_of};
 ghost use Rattle.fed_world.specs.Accept.{accept_row, accept_first, accepted};
 
-use crate::reason::Reason;
 use crate::row::{Row, link_of, one};
 use crate::rows::publish::published;
 use amqp_props::{Message, Text};
@@ -16,6 +15,7 @@ use broker_view::run::Run;
 use fed_journal::entry::{Entry, Publication, Publisher};
 use fed_journal::journal::Numbers;
 use fed_journal::link::LinkSpec;
+use fed_journal::reason::Reason;
 use journal_scan::copies::publication_of;
 use journal_scan::flight::flight_sent;
 use journal_scan::phases::{is_open, session};

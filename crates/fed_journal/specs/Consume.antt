@@ -4,8 +4,8 @@ use Rattle.fed_journal.specs.declared.place.Place.{Place}
 use Rattle.fed_journal.specs.declared.entry.Entry.{Entry}
 use Rattle.fed_journal.specs.declared.entry.Entry.TheVariants.{Consumed, Cancelled}
 use Rattle.fed_journal.specs.Consumers.{consumer}
-use Rattle.fed_world.specs.declared.reason.Reason.TheVariants.{Refused}
-use Rattle.fed_world.specs.Row.{Row, at_place, with_queue, channel_of}
+use Rattle.fed_journal.specs.declared.reason.Reason.TheVariants.{Refused}
+use Rattle.fed_journal.specs.Row.{Row, at_place, with_queue, channel_of}
 
 -- the tag is in use by this client
 abbrev pub consumes : List Entry → Place → ℕ → List ℕ → Bool
