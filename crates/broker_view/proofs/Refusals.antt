@@ -21,18 +21,20 @@ use Rattle.fed_journal.specs.Configuration.{queue_options, queue_owner, exchange
 use Rattle.fed_journal.specs.Row as rows
 use Rattle.fed_journal.specs.Declare as declared
 use Rattle.fed_journal.specs.Bind as bindings
+use Rattle.fed_journal.specs.Consume as consumers
 use Rattle.fed_journal.specs.Publish as publications
+use Rattle.broker_store.specs.declared.consumer.Consumer.{Consumer}
 use Rattle.broker_store.specs.Queues.{Standing, queue_of}
 use Rattle.broker_store.specs.Exchanges.{shape_of}
 use Rattle.mini_broker.specs.declared.fault.ClientFault.{ClientFault}
 use Rattle.mini_broker.specs.declared.fault.ClientFault.TheVariants.{Refused}
 use Rattle.mini_broker.specs.State.{VhostState}
-use Rattle.mini_broker.specs.Consume.{refusal_at, queue_refusal}
+use Rattle.mini_broker.specs.Consume.{refusal_at, queue_refusal, consumer_of, or_tag_in_use, consume_refusal}
 use Rattle.mini_broker.specs.Declare as declare
 use Rattle.mini_broker.specs.Bind as bind
 use Rattle.mini_broker.specs.Publish as publish
 use Rattle.broker_view.specs.Reasons.{reason_of, with_reason}
-use Rattle.broker_view.specs.View.{IsConfigured}
+use Rattle.broker_view.specs.View.{IsConfigured, HasConsumers, asked}
 
 -- ---- a queue that another connection has to itself
 
@@ -66,6 +68,22 @@ queue-refusal-is J p v who q h =
     refusal-by who (is_reserved q) (queue_of q v.queues)
     ∙ ap (λ o. if is_reserved q then Some (why.Refused 403) else if is_some o then (if is_another_in who.connection (owner_in (queue_of q v.queues)) then Some (why.Refused 405) else None) else Some (why.Refused 404)) (h.options q)
     ∙ ap (λ o. if is_reserved q then Some (why.Refused 403) else if is_some (queue_options J p q) then (if is_another_in who.connection o then Some (why.Refused 405) else None) else Some (why.Refused 404)) (h.owners q)
+
+-- ---- a consumer
+
+tag-by : (o : Option ClientFault) (used : Bool) → option_map reason_of (or_tag_in_use o used) ≡ consumers.or_tag_in_use (option_map reason_of o) used
+tag-by None true = refl
+tag-by None false = refl
+tag-by (Some fault) used = refl
+
+some-asked : (o : Option Consumer) → is_some (option_map asked o) ≡ is_some o
+some-asked None = refl
+some-asked (Some consumer) = refl
+
+pub consume-refusal-is : (J : List Entry) (p : Place) (v : VhostState) (client : ℕ) (q tag : List ℕ) → IsConfigured J p v → HasConsumers J p v → option_map reason_of (consume_refusal (rows.channel_of client) q tag v) ≡ consumers.consume_refusal J p client q tag
+consume-refusal-is J p v client q tag h k =
+    tag-by (queue_refusal (rows.channel_of client) q v) (is_some (consumer_of (rows.channel_of client) tag v))
+    ∙ ap₂ consumers.or_tag_in_use (queue-refusal-is J p v (rows.channel_of client) q h) (sym (some-asked (consumer_of (rows.channel_of client) tag v)) ∙ ap is_some (k.consumers (rows.channel_of client) tag))
 
 -- ---- a declaration
 

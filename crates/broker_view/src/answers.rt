@@ -6,6 +6,7 @@ ghost use Rattle.fed_journal.specs.Configuration.{is_place as is_place_of};
 ghost use Rattle.fed_journal.specs.Row as rows;
 ghost use Rattle.fed_journal.specs.Declare.{queue_declared, exchange_declared};
 ghost use Rattle.fed_journal.specs.Bind as bindings;
+ghost use Rattle.fed_journal.specs.Consume as consumers;
 ghost use Rattle.fed_journal.specs.Publish as publications;
 ghost use Rattle.broker_view.specs.Reasons.{reason_of, with_reason};
 
@@ -67,6 +68,22 @@ impl<'a> Run<'a> {
     {
         let vhost = self.vhost(place)?;
         reason_in(vhost.queue_refusal(channel_of(client), queue.as_str()))
+    }
+
+    /// Why a client is refused a consumer of the queue under the tag, if it is.
+    pub fn consume_refusal(
+        &self,
+        place: &Place,
+        client: u16,
+        queue: &Text,
+        tag: &Text,
+    ) -> Option<Reason>
+        requires { is_place_of self.now place.now ≡ true }
+        ensures { result ≡ consumers.consume_refusal self.now place.now client queue.now tag.now }
+    {
+        let vhost = self.vhost(place)?;
+        let who = channel_of(client);
+        reason_in(vhost.consume_refusal(who, queue.as_str(), tag.as_str()))
     }
 
     /// Whether the declaration of a queue makes it, or why the client is refused it.

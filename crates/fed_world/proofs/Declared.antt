@@ -1,7 +1,8 @@
--- What a declaration makes isn't there before, and has a name.
+-- What a declaration makes isn't there before, and has a name; a consumer begins under a tag that is free.
 use Rattle.std.proofs.Common.{◌≡◌, ℕ, List, [], Bool, true, false, Option, Some, None, is_some, refl, sym, ap, ◌∙◌}
 use Rattle.std.specs.Prelude.{if◌then◌else◌, ◌||◌, Result, Ok, Err, unwrap_or}
 use Rattle.std.proofs.lemmas.Bool.{true≢false, or_parts}
+use Rattle.std.proofs.lemmas.Option.{none-some}
 use Rattle.amqp_props.specs.declared.link.QueueOptions.{QueueOptions}
 use Rattle.client_rules.specs.declared.client.ExchangeShape.{ExchangeShape}
 use Rattle.client_rules.specs.Names.{is_reserved, is_refused_exchange}
@@ -13,6 +14,7 @@ use Rattle.fed_journal.specs.declared.reason.Reason.TheVariants as why
 use Rattle.fed_journal.specs.Names.{same_text}
 use Rattle.fed_journal.specs.Configuration.{queue_options, exchange_shape}
 use Rattle.fed_journal.specs.Row.{lock_refusal, unless_refused}
+use Rattle.fed_journal.specs.Consume.{or_tag_in_use}
 use Rattle.fed_journal.specs.Declare.{is_refused, declared_again, queue_declared, is_exchange_refused, exchange_again, exchange_declared}
 
 -- the answer that something is made
@@ -56,3 +58,9 @@ unfolding exchange_declared
 exchange-made J p x shape h =
     let parts : (is_exchange_refused J p x ≡ false) × (exchange_shape J p x ≡ None) = exchange-by (is_exchange_refused J p x) shape (exchange_shape J p x) (ap is_made h) in
     (parts.1, named J p x parts.0)
+
+-- a client that isn't refused a consumer doesn't use the tag
+pub tag-free : (o : Option Reason) (used : Bool) → or_tag_in_use o used ≡ None → used ≡ false
+tag-free None false h = refl
+tag-free None true h = absurd (none-some (why.Refused 530) (sym h))
+tag-free (Some reason) used h = absurd (none-some reason (sym h))

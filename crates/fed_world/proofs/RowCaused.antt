@@ -27,7 +27,7 @@ use Rattle.broker_view.proofs.Configured.{options-push}
 use Rattle.fed_journal.specs.declared.reason.Reason.TheVariants as why
 use Rattle.fed_journal.specs.Row.{oldest, lock_refusal, queue_refusal, channel_of}
 use Rattle.fed_journal.specs.Answer.{answer_refusal, ack_row, reject_row, requeue_row}
-use Rattle.fed_journal.specs.Consume.{consumes, consume_row, cancel_row}
+use Rattle.fed_journal.specs.Consume.{consumes, consume_refusal, consume_row, cancel_row}
 use Rattle.fed_journal.specs.Deliver.{is_busy, deliver_to, deliver_row}
 use Rattle.fed_journal.specs.Get.{get_row}
 use Rattle.fed_journal.specs.Purge.{purge_row}
@@ -358,7 +358,7 @@ requeue_row-caused J p client c = unless_known_refused-has (EachCaused J) (answe
 consume_row-caused : (J : List Entry) (p : Place) (client : ℕ) (q tag : List ℕ) (no_ack : Bool) (prefetch : ℕ) → RowHas (EachCaused J) (consume_row J p client q tag no_ack prefetch)
 unfolding consume_row
 consume_row-caused J p client q tag no_ack prefetch =
-    at_place-has (EachCaused J) J p _ (unless_refused-has (EachCaused J) (queue_refusal J p client q) _ (either-has (EachCaused J) (consumes J p client tag) _ _ tt (tt, tt)))
+    at_place-has (EachCaused J) J p _ (unless_refused-has (EachCaused J) (consume_refusal J p client q tag) _ (tt, tt))
 
 cancel_row-caused : (J : List Entry) (p : Place) (client : ℕ) (tag : List ℕ) → RowHas (EachCaused J) (cancel_row J p client tag)
 unfolding cancel_row

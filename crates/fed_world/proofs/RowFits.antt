@@ -27,7 +27,7 @@ use Rattle.fed_journal.specs.declared.reason.Reason.{Reason}
 use Rattle.fed_journal.specs.declared.reason.Reason.TheVariants as why
 use Rattle.fed_journal.specs.Row.{Row, at_place, with_link, with_spec, while_open, unless_refused, lock_refusal, queue_refusal, channel_of, one_or_empty, oldest, made_row}
 use Rattle.fed_journal.specs.Answer.{answer_refusal, ack_row, reject_row, requeue_row}
-use Rattle.fed_journal.specs.Consume.{consumes, consume_row, cancel_row}
+use Rattle.fed_journal.specs.Consume.{consumes, consume_refusal, consume_row, cancel_row}
 use Rattle.fed_journal.specs.Deliver.{is_busy, deliver_to, deliver_row}
 use Rattle.fed_journal.specs.Get.{get_row}
 use Rattle.fed_journal.specs.Purge.{purge_row}
@@ -110,7 +110,7 @@ requeue_row-fits J p client c = unless_refused-fits J (answer_refusal J p client
 consume_row-fits : (J : List Entry) (p : Place) (client : ℕ) (q tag : List ℕ) (no_ack : Bool) (prefetch : ℕ) → RowFits J (consume_row J p client q tag no_ack prefetch)
 unfolding consume_row
 consume_row-fits J p client q tag no_ack prefetch =
-    at_place-fits J p _ (unless_refused-fits J (queue_refusal J p client q) _ (either-fits J (consumes J p client tag) _ _ tt (tt, tt)))
+    at_place-fits J p _ (unless_refused-fits J (consume_refusal J p client q tag) _ (tt, tt))
 
 cancel_row-fits : (J : List Entry) (p : Place) (client : ℕ) (tag : List ℕ) → RowFits J (cancel_row J p client tag)
 unfolding cancel_row

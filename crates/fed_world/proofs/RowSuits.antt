@@ -37,7 +37,7 @@ use Rattle.fed_journal.specs.Row.{Row, oldest, lock_refusal, queue_refusal, chan
 use Rattle.fed_journal.specs.Declare.{declare_row, queue_declared, declare_exchange_row, exchange_declared, stands, lasting}
 use Rattle.fed_journal.specs.Bind.{bind_refusal, bind_row, unbind_row}
 use Rattle.fed_journal.specs.Publish.{publish_row, publish_refusal, publication, published}
-use Rattle.fed_journal.specs.Consume.{consumes, consume_row, cancel_row}
+use Rattle.fed_journal.specs.Consume.{consumes, consume_refusal, consume_row, cancel_row}
 use Rattle.fed_journal.specs.Deliver.{is_busy, deliver_to, deliver_row}
 use Rattle.fed_journal.specs.Get.{get_row}
 use Rattle.fed_journal.specs.Answer.{answer_refusal, ack_row, reject_row, requeue_row}
@@ -58,7 +58,7 @@ use Rattle.fed_world.specs.Run.{begin, begun}
 use Rattle.fed_world.proofs.Causes.{EachCaused}
 use Rattle.fed_world.proofs.Lists.{find-in}
 use Rattle.fed_world.proofs.OwnedQueues.{close-suits}
-use Rattle.fed_world.proofs.Declared.{queue-made, exchange-made}
+use Rattle.fed_world.proofs.Declared.{queue-made, exchange-made, tag-free}
 use Rattle.fed_world.proofs.RowHas.{RowHas, either-has, if_not-has, at_place-has, with_link-has, while_open-has, one_or_empty-has, unless_refused-has, unless_known_refused-has, made_row-has}
 use Rattle.fed_world.proofs.RowCaused.{not_there, target-missing, target-fresh, take-cause, answer-held}
 use Rattle.fed_world.proofs.Standings.{waiting-is}
@@ -109,7 +109,7 @@ none-there (Some o) h = absurd (true≢false h)
 consume_row-suits : (J : List Entry) (p : Place) (client : ℕ) (q tag : List ℕ) (no_ack : Bool) (prefetch : ℕ) → RowSuits J (consume_row J p client q tag no_ack prefetch)
 unfolding consume_row
 consume_row-suits J p client q tag no_ack prefetch =
-    at_place-has (EachSuits J) J p _ (unless_refused-has (EachSuits J) (queue_refusal J p client q) _ (if_not-has (EachSuits J) (consumes J p client tag) _ _ tt (λ h. (none-there (consumer J p (channel_of client) tag) h, tt))))
+    at_place-has (EachSuits J) J p _ (unless_known_refused-has (EachSuits J) (consume_refusal J p client q tag) _ (λ h. (none-there (consumer J p (channel_of client) tag) (tag-free (queue_refusal J p client q) (consumes J p client tag) h), tt)))
 
 cancel_row-suits : (J : List Entry) (p : Place) (client : ℕ) (tag : List ℕ) → RowSuits J (cancel_row J p client tag)
 unfolding cancel_row

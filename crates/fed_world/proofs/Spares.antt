@@ -22,7 +22,7 @@ use Rattle.broker_view.proofs.Awaited.{closed-stays}
 use Rattle.fed_journal.specs.declared.reason.Reason.TheVariants as why
 use Rattle.fed_journal.specs.Row.{oldest, lock_refusal, queue_refusal}
 use Rattle.fed_journal.specs.Answer.{answer_refusal, requeue_row}
-use Rattle.fed_journal.specs.Consume.{consumes, consume_row, cancel_row}
+use Rattle.fed_journal.specs.Consume.{consumes, consume_refusal, consume_row, cancel_row}
 use Rattle.fed_journal.specs.Close.{close_row}
 use Rattle.fed_journal.specs.Declare.{declare_row, queue_declared, declare_exchange_row, exchange_declared, stands}
 use Rattle.fed_journal.specs.Publish.{publish_row, publish_refusal}
@@ -181,7 +181,7 @@ requeue_row-spares J p client c = unless_refused-has Spares (answer_refusal J p 
 consume_row-spares : (J : List Entry) (p : Place) (client : ℕ) (q tag : List ℕ) (no_ack : Bool) (prefetch : ℕ) → RowHas Spares (consume_row J p client q tag no_ack prefetch)
 unfolding consume_row
 consume_row-spares J p client q tag no_ack prefetch =
-    at_place-has Spares J p _ (unless_refused-has Spares (queue_refusal J p client q) _ (either-has Spares (consumes J p client tag) _ _ tt (λ c y t h stay. stays t h, tt)))
+    at_place-has Spares J p _ (unless_refused-has Spares (consume_refusal J p client q tag) _ (λ c y t h stay. stays t h, tt))
 
 cancel_row-spares : (J : List Entry) (p : Place) (client : ℕ) (tag : List ℕ) → RowHas Spares (cancel_row J p client tag)
 unfolding cancel_row

@@ -94,6 +94,11 @@ report J events = report_of J (length events) (run J events)
 
 -- ---- a report that may get too long
 
+-- a piece of an output: its text, or nothing where no output has room for it
+abbrev pub IsPiece : Option (List ℕ) → List ℕ → Type 0
+IsPiece None text = 67108864 < length text
+IsPiece (Some piece) text = piece ≡ text
+
 -- an output with a piece more; none once it is too long
 abbrev pub joined : Option (List ℕ) → List ℕ → Option (List ℕ)
 joined None piece = None

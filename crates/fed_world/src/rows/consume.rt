@@ -38,11 +38,8 @@ pub fn consume_row(
     if !run.is_place(place) {
         return Ok(Err(Reason::NoPlace));
     }
-    if let Some(reason) = run.queue_refusal(place, client, queue) {
+    if let Some(reason) = run.consume_refusal(place, client, queue, tag) {
         return Ok(Err(reason));
-    }
-    if consumes(run, place, client, tag) {
-        return Ok(Err(Reason::Refused(530)));
     }
     let place = place.clone()?;
     let queue = queue.clone()?;

@@ -3,7 +3,7 @@ use Rattle.std.specs.Option.{option_map}
 use Rattle.mini_broker.specs.Declare.{declare_exchange_answer}
 use Rattle.broker_view.specs.Reasons.{with_reason}
 use Rattle.broker_view.proofs.Refusals.{exchange-declared-is}
-use Rattle.broker_view.proofs.answers.Run.declares_exchange.Goals as goal
+use Rattle.broker_view.proofs.run.Run.declares_exchange.Goals as goal
 
 pub returns-in-Some : goal.returns-in-Some
 returns-in-Some c =

@@ -3,7 +3,7 @@ use Rattle.std.specs.Option.{option_map}
 use Rattle.mini_broker.specs.Publish.{publish_refusal}
 use Rattle.broker_view.specs.Reasons.{reason_of}
 use Rattle.broker_view.proofs.Refusals.{publish-refusal-is}
-use Rattle.broker_view.proofs.answers.Run.publish_refusal.Goals as goal
+use Rattle.broker_view.proofs.run.Run.publish_refusal.Goals as goal
 
 pub returns : goal.returns
 returns c =

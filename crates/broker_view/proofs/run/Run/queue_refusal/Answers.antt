@@ -4,7 +4,7 @@ use Rattle.fed_journal.specs.Row.{channel_of}
 use Rattle.mini_broker.specs.Consume.{queue_refusal}
 use Rattle.broker_view.specs.Reasons.{reason_of}
 use Rattle.broker_view.proofs.Refusals.{queue-refusal-is}
-use Rattle.broker_view.proofs.answers.Run.queue_refusal.Goals as goal
+use Rattle.broker_view.proofs.run.Run.queue_refusal.Goals as goal
 
 pub returns : goal.returns
 returns c =

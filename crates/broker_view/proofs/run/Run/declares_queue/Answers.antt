@@ -4,7 +4,7 @@ use Rattle.fed_journal.specs.Row.{channel_of}
 use Rattle.mini_broker.specs.Declare.{declare_answer}
 use Rattle.broker_view.specs.Reasons.{with_reason}
 use Rattle.broker_view.proofs.Refusals.{queue-declared-is}
-use Rattle.broker_view.proofs.answers.Run.declares_queue.Goals as goal
+use Rattle.broker_view.proofs.run.Run.declares_queue.Goals as goal
 
 pub returns-in-Some : goal.returns-in-Some
 returns-in-Some c =
