@@ -30,7 +30,7 @@ declared_again options None = Ok true
 declared_again options (Some was) = if same_options was options then Ok false else Err (Refused 406)
 
 -- whether a declaration makes the queue (AMQP 0-9-1, queue.declare); RESOURCE_LOCKED (405) where another connection has it to itself
-abbrev pub queue_declared : List Entry → Place → ℕ → List ℕ → QueueOptions → Result Bool Reason
+unfoldable pub queue_declared : List Entry → Place → ℕ → List ℕ → QueueOptions → Result Bool Reason
 queue_declared J p client q options =
     if is_refused J p q then Err (Refused 403) else unless_refused (lock_refusal J p client q) (declared_again options (queue_options J p q))
 
@@ -48,7 +48,7 @@ exchange_again shape None = Ok true
 exchange_again shape (Some was) = if same_shape was shape then Ok false else Err (Refused 406)
 
 -- whether a declaration makes the exchange (AMQP 0-9-1, exchange.declare)
-abbrev pub exchange_declared : List Entry → Place → List ℕ → ExchangeShape → Result Bool Reason
+unfoldable pub exchange_declared : List Entry → Place → List ℕ → ExchangeShape → Result Bool Reason
 exchange_declared J p x shape = if is_exchange_refused J p x then Err (Refused 403) else exchange_again shape (exchange_shape J p x)
 
 unfoldable pub declare_exchange_row : List Entry → Place → List ℕ → ExchangeShape → Row
