@@ -9,6 +9,7 @@ use Rattle.broker_store.specs.declared.mailbox.CopyMessage.{CopyMessage}
 use Rattle.broker_store.specs.declared.mailbox.Sweep.{Sweep}
 use Rattle.broker_store.specs.declared.mailbox.Sweep.TheVariants.{Store, Free, Leave, Release, Hand, Settle, Requeue}
 
+-- the mail of a queue: its rows (who holds each copy, and whether it is stored), and its copies with what they carry, a message or its key (AMQP 0-9-1, 3.1.1)
 pub record Mail (M : Type 0) : Type 0 where
   pub rows : List Row
   pub copies : List (CopyMessage M)

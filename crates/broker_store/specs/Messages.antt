@@ -65,7 +65,7 @@ all_uses key (q ∷ queues) = uses key q.1.mail.copies + all_uses key queues
 abbrev pub IsCounted : Slab Kept → List (Named ℕ) → Type 0
 IsCounted kept queues = (key : ℕ) → copies_at key kept ≡ all_uses key queues
 
--- at least for these
+-- each message is kept for at least so many copies as these are
 abbrev pub Covers : Slab Kept → List (CopyMessage ℕ) → Type 0
 Covers kept copies = (key : ℕ) → uses key copies ≤ copies_at key kept
 

@@ -67,7 +67,7 @@ all-push (d ∷ J) e all on =
     and_from (is_begun d) (list_all is_begun (J ++ e ∷ [])) parts.0 (all-push J e parts.1 on)
 
 begun-view : (K : List Entry) (e : Entry) (p : Place) → is_begun e ≡ true → list_all is_begun K ≡ true → IsView K p bare → IsView (K ++ e ∷ []) p bare
-begun-view K (Begun broker cluster kept) p on all view = view-step 0 K p (Begun broker cluster kept) bare view all
+begun-view K (Begun broker cluster kept) p on all view = view-step K p (Begun broker cluster kept) bare view all
 begun-view K e p on all view = absurd (false≢true on)
 
 bare-from : (K es : List Entry) (p : Place) → list_all is_begun K ≡ true → list_all is_begun es ≡ true → IsView K p bare → IsView (K ++ es) p bare

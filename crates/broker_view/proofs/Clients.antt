@@ -7,7 +7,7 @@ use Rattle.client_rules.specs.declared.client.Client.{Client}
 use Rattle.fed_journal.specs.declared.entry.Entry.{Entry}
 use Rattle.fed_journal.specs.declared.entry.Entry.TheVariants.{MadeQueue, MadeExchange, GoneQueue, Bound, Unbound, Published, Flushed, Consumed, Cancelled, Delivered, Purged, Closed}
 use Rattle.fed_journal.specs.Names.{same_text, same_place}
-use Rattle.fed_journal.specs.Routes.{bound, unbound}
+use Rattle.route_core.specs.Routing.{bound, unbound}
 use Rattle.fed_journal.specs.Consumers as journal
 use Rattle.broker_store.specs.declared.consumer.Consumer.{Consumer}
 use Rattle.broker_store.specs.declared.mailbox.Sweep.TheVariants as sweeps
@@ -46,27 +46,27 @@ IsPlain (GoneQueue place queue) = ⊥
 IsPlain (Delivered place client tag queue copy no_ack) = ⊥
 IsPlain _ = Unit {0}
 
-pub plain-same : (n : ℕ) (p : Place) (e : Entry) (v : VhostState) → IsPlain e → SameClients v (recorded n p e v)
-plain-same n p (Consumed place client queue tag no_ack prefetch) v plain = absurd plain
-plain-same n p (Cancelled place client tag) v plain = absurd plain
-plain-same n p (Closed place connection) v plain = absurd plain
-plain-same n p (GoneQueue place queue) v plain = absurd plain
-plain-same n p (Delivered place client tag queue copy no_ack) v plain = absurd plain
-plain-same n p (MadeQueue place queue options owner) v plain =
+pub plain-same : (p : Place) (e : Entry) (v : VhostState) → IsPlain e → SameClients v (recorded p e v)
+plain-same p (Consumed place client queue tag no_ack prefetch) v plain = absurd plain
+plain-same p (Cancelled place client tag) v plain = absurd plain
+plain-same p (Closed place connection) v plain = absurd plain
+plain-same p (GoneQueue place queue) v plain = absurd plain
+plain-same p (Delivered place client tag queue copy no_ack) v plain = absurd plain
+plain-same p (MadeQueue place queue options owner) v plain =
     same-if (same_place place p) (with_queue queue options owner v) v (record { clients = refl; consumers = refl; begun = refl })
-plain-same n p (MadeExchange place exchange shape) v plain =
+plain-same p (MadeExchange place exchange shape) v plain =
     same-if (same_place place p) (with_exchange exchange shape v) v (record { clients = refl; consumers = refl; begun = refl })
-plain-same n p (Bound place binding) v plain =
+plain-same p (Bound place binding) v plain =
     same-if (same_place place p) (with_routing (bound binding v.routing) v) v (record { clients = refl; consumers = refl; begun = refl })
-plain-same n p (Unbound place binding) v plain =
+plain-same p (Unbound place binding) v plain =
     same-if (same_place place p) (with_routing (unbound binding v.routing) v) v (record { clients = refl; consumers = refl; begun = refl })
-plain-same n p (Published x) v plain =
+plain-same p (Published x) v plain =
     same-if (same_place x.place p) (with_entered x.queues x.first x.message v) v (record { clients = refl; consumers = refl; begun = refl })
-plain-same n p (Flushed broker) v plain =
+plain-same p (Flushed broker) v plain =
     same-if (same_text broker p.broker) (all_swept sweeps.Store v) v (record { clients = refl; consumers = refl; begun = refl })
-plain-same n p (Purged place queue) v plain =
+plain-same p (Purged place queue) v plain =
     same-if (same_place place p) (with_purged queue v) v (record { clients = refl; consumers = refl; begun = refl })
-plain-same n p _ v plain = record { clients = refl; consumers = refl; begun = refl }
+plain-same p _ v plain = record { clients = refl; consumers = refl; begun = refl }
 
 pub plain-consumer : (p : Place) (k : Client) (t : List ℕ) (was : Option journal.Consumer) (e : Entry) → IsPlain e → journal.consumer_step p k t was e ≡ was
 plain-consumer p k t was (Consumed place client queue tag no_ack prefetch) plain = absurd plain
@@ -118,18 +118,18 @@ grows-if : (b : Bool) (w v : VhostState) → Grows v w → Grows v (cond b w v)
 grows-if true w v h = h
 grows-if false w v h = same-grows v v (same-clients v)
 
-pub recorded-grows : (n : ℕ) (p : Place) (e : Entry) (v : VhostState) → Grows v (recorded n p e v)
-recorded-grows n p (Consumed place client queue tag no_ack prefetch) v =
+pub recorded-grows : (p : Place) (e : Entry) (v : VhostState) → Grows v (recorded p e v)
+recorded-grows p (Consumed place client queue tag no_ack prefetch) v =
     grows-if (same_place place p) (with_consumer (new_consumer client queue tag no_ack prefetch v) v) v (record { clients = λ k i h. registered-longer client k v.clients i h; begun = omega arith })
-recorded-grows n p (Delivered place client tag queue copy no_ack) v =
+recorded-grows p (Delivered place client tag queue copy no_ack) v =
     grows-if (same_place place p) (with_handed client tag queue copy no_ack v) v (record { clients = λ k i h. registered-longer client k v.clients i h; begun = omega arith })
-recorded-grows n p (Cancelled place client tag) v =
+recorded-grows p (Cancelled place client tag) v =
     grows-if (same_place place p) (without_consumer client tag v) v (record { clients = λ k i h. h; begun = omega arith })
-recorded-grows n p (Closed place connection) v =
+recorded-grows p (Closed place connection) v =
     grows-if (same_place place p) (disconnected connection v) v (record { clients = λ k i h. h; begun = omega arith })
-recorded-grows n p (GoneQueue place queue) v =
+recorded-grows p (GoneQueue place queue) v =
     grows-if (same_place place p) (without_queue queue v) v (record { clients = λ k i h. h; begun = omega arith })
-recorded-grows n p e v = same-grows v (recorded n p e v) (plain-same n p e v tt)
+recorded-grows p e v = same-grows v (recorded p e v) (plain-same p e v tt)
 
 pub numbered-grown : (v w : VhostState) (consumer : Consumer) → Grows v w → IsNumbered v consumer → IsNumbered w consumer
 numbered-grown v w consumer grown h =

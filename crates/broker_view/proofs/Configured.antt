@@ -12,15 +12,16 @@ use Rattle.route_core.specs.declared.object.Sort.TheVariants as sorts
 use Rattle.route_core.specs.Bindings.{has_binding}
 use Rattle.route_core.specs.declared.object.Object.{Object}
 use Rattle.route_core.specs.Objects.{sort_of, has, number_of, rises}
-use Rattle.route_core.specs.Routing.{Routing, stands, with_object, without_object, with_binding, without_binding}
+use Rattle.route_core.specs.Routing.{Routing, stands, with_object, without_object, with_binding, without_binding, bound, unbound, has_ends}
 use Rattle.fed_journal.specs.declared.place.Place.{Place}
 use Rattle.client_rules.specs.declared.client.Client.{Client}
 use Rattle.client_rules.specs.declared.client.ExchangeShape.{ExchangeShape}
 use Rattle.fed_journal.specs.declared.entry.Entry.{Entry}
 use Rattle.fed_journal.specs.declared.entry.Entry.TheVariants.{MadeQueue, MadeExchange, GoneQueue, Bound, Unbound, Published, Flushed, Took, Settled, Consumed, Cancelled, Delivered, Acked, Rejected, Requeued, Purged, Closed}
 use Rattle.fed_journal.specs.Names.{same_text, same_place}
-use Rattle.fed_journal.specs.Configuration.{queue_options, options_step, queue_owner, owner_step, queues_of, queues_step, exchange_shape, shape_step, predeclared_shape}
-use Rattle.fed_journal.specs.Routes.{Site, site, site_of, site_step, first_site, made, gone, bound, unbound, has_ends}
+use Rattle.route_core.specs.Predeclared.{predeclared_shape}
+use Rattle.fed_journal.specs.Configuration.{queue_options, options_step, queue_owner, owner_step, queues_of, queues_step, exchange_shape, shape_step}
+use Rattle.fed_journal.specs.Routes.{Site, site, site_of, site_step, first_site, made, gone}
 use Rattle.amqp_props.specs.declared.message.Message.{Message}
 use Rattle.broker_store.specs.declared.consumer.Consumer.{Consumer}
 use Rattle.broker_store.specs.declared.mailbox.Sweep.TheVariants as sweeps
@@ -294,42 +295,42 @@ routing-at true v k was now same objects h = record {
 
 -- ---- each entry
 
-step : (n : ℕ) (J : List Entry) (p : Place) (e : Entry) (v : VhostState) → Stands v (known J p) → Suits J e → Stands (recorded n p e v) (known_after J p e)
-step n J p (MadeQueue place queue options owner) v h suits =
+step : (J : List Entry) (p : Place) (e : Entry) (v : VhostState) → Stands v (known J p) → Suits J e → Stands (recorded p e v) (known_after J p e)
+step J p (MadeQueue place queue options owner) v h suits =
     made-at (same_place place p) v (known J p) queue options owner h (λ here. subst (λ r. queue_options J r queue ≡ None) (same_place-true place p here) suits)
-step n J p (MadeExchange place exchange shape) v h suits =
+step J p (MadeExchange place exchange shape) v h suits =
     exchange-at (same_place place p) v (known J p) exchange shape h (λ here. subst (λ r. exchange_shape J r exchange ≡ None) (same_place-true place p here) suits.0) suits.1
-step n J p (GoneQueue place queue) v h suits = gone-at (same_place place p) v (known J p) queue h (site-ends J p)
-step n J p (Bound place binding) v h suits =
+step J p (GoneQueue place queue) v h suits = gone-at (same_place place p) v (known J p) queue h (site-ends J p)
+step J p (Bound place binding) v h suits =
     routing-at (same_place place p) v (known J p) (bound binding v.routing) (bound binding (site J p).routing) (ap (bound binding) h.routing) (bound-objects binding v.routing) h
-step n J p (Unbound place binding) v h suits =
+step J p (Unbound place binding) v h suits =
     routing-at (same_place place p) v (known J p) (unbound binding v.routing) (unbound binding (site J p).routing) (ap (unbound binding) h.routing) (unbound-objects binding v.routing) h
-step n J p (Published x) v h suits =
+step J p (Published x) v h suits =
     change-at (same_place x.place p) v (known J p) (all_entered x.queues x.first x.message v.queues) v.clients v.consumers v.begun (plain-entered x.queues x.first x.message v.queues) h
-step n J p (Flushed broker) v h suits =
+step J p (Flushed broker) v h suits =
     change-at (same_text broker p.broker) v (known J p) (all_changed (with_mail (swept sweeps.Store)) v.queues) v.clients v.consumers v.begun (plain-all (swept sweeps.Store) v.queues) h
-step n J p (Took l session copy) v h suits =
-    change-at true v (known J p) (all_changed (with_mail (handed copy (session_holder n session))) v.queues) v.clients v.consumers v.begun (plain-all (handed copy (session_holder n session)) v.queues) h
-step n J p (Settled l session copy) v h suits =
+step J p (Took l session copy) v h suits =
+    change-at true v (known J p) (all_changed (with_mail (handed copy (session_holder session))) v.queues) v.clients v.consumers v.begun (plain-all (handed copy (session_holder session)) v.queues) h
+step J p (Settled l session copy) v h suits =
     change-at true v (known J p) (all_changed (with_mail (left copy)) v.queues) v.clients v.consumers v.begun (plain-all (left copy) v.queues) h
-step n J p (Consumed place client queue tag no_ack prefetch) v h suits =
+step J p (Consumed place client queue tag no_ack prefetch) v h suits =
     change-at (same_place place p) v (known J p) v.queues (registered client v.clients) (v.consumers ++ new_consumer client queue tag no_ack prefetch v ∷ []) (v.begun + 1) refl h
-step n J p (Cancelled place client tag) v h suits =
+step J p (Cancelled place client tag) v h suits =
     change-at (same_place place p) v (known J p) v.queues v.clients (without_consumer client tag v).consumers v.begun refl h
-step n J p (Delivered place client tag queue copy no_ack) v h suits =
+step J p (Delivered place client tag queue copy no_ack) v h suits =
     change-at (same_place place p) v (known J p) (handed_over queue copy (holder_as client tag v) no_ack v.queues) (registered client v.clients) v.consumers v.begun (plain-changed queue (given copy (holder_as client tag v) no_ack) v.queues) h
-step n J p (Acked place client copy) v h suits =
+step J p (Acked place client copy) v h suits =
     change-at true v (known J p) (all_changed (with_mail (left copy)) v.queues) v.clients v.consumers v.begun (plain-all (left copy) v.queues) h
-step n J p (Rejected place client copy) v h suits =
+step J p (Rejected place client copy) v h suits =
     change-at true v (known J p) (all_changed (with_mail (left copy)) v.queues) v.clients v.consumers v.begun (plain-all (left copy) v.queues) h
-step n J p (Requeued place client copy) v h suits =
+step J p (Requeued place client copy) v h suits =
     change-at true v (known J p) (all_changed (with_mail (released copy)) v.queues) v.clients v.consumers v.begun (plain-all (released copy) v.queues) h
-step n J p (Purged place queue) v h suits =
+step J p (Purged place queue) v h suits =
     change-at (same_place place p) v (known J p) (changed queue (with_mail purged) v.queues) v.clients v.consumers v.begun (plain-changed queue purged v.queues) h
-step n J p (Closed place connection) v h suits =
+step J p (Closed place connection) v h suits =
     change-at (same_place place p) v (known J p) (freed_from connection 0 v.clients v.queues) v.clients (disconnected connection v).consumers v.begun (plain-freed connection 0 v.clients v.queues) h
-step n J p _ v h suits = h
+step J p _ v h suits = h
 
 -- what was declared and bound follows the journal (AMQP 0-9-1, 3.1 "The AMQ model")
-pub configured-step : (n : ℕ) (J : List Entry) (p : Place) (e : Entry) (v : VhostState) → IsConfigured J p v → Suits J e → IsConfigured (J ++ e ∷ []) p (recorded n p e v)
-configured-step n J p e v h suits = after J p e (recorded n p e v) (step n J p e v (before J p v h) suits)
+pub configured-step : (J : List Entry) (p : Place) (e : Entry) (v : VhostState) → IsConfigured J p v → Suits J e → IsConfigured (J ++ e ∷ []) p (recorded p e v)
+configured-step J p e v h suits = after J p e (recorded p e v) (step J p e v (before J p v h) suits)

@@ -238,13 +238,13 @@ consumed J p place client queue tag no_ack prefetch v false away grown h new =
     elsewhere J p (Consumed place client queue tag no_ack prefetch) v h (λ k t. ap (λ c. cond c (Some (asked (new_consumer client queue tag no_ack prefetch v))) (journal.consumer J p k t)) (is_same-here p place k client t tag false away))
 
 -- each entry keeps who consumes as the journal has it
-pub consuming-step : (n : ℕ) (J : List Entry) (p : Place) (e : Entry) (v : VhostState) → HasConsumers J p v → Suits J e → HasConsumers (J ++ e ∷ []) p (recorded n p e v)
-consuming-step n J p (Consumed place client queue tag no_ack prefetch) v h suits =
-    consumed J p place client queue tag no_ack prefetch v (same_place place p) refl (recorded-grows n p (Consumed place client queue tag no_ack prefetch) v) h suits
-consuming-step n J p (Cancelled place client tag) v h suits = cancelled J p place client tag v (same_place place p) refl h
-consuming-step n J p (Closed place connection) v h suits = closed J p place connection v (same_place place p) refl h
-consuming-step n J p (GoneQueue place queue) v h suits = gone J p place queue v (same_place place p) refl h
-consuming-step n J p (Delivered place client tag queue copy no_ack) v h suits =
-    delivered J p place client tag queue copy no_ack (same_place place p) v (recorded-grows n p (Delivered place client tag queue copy no_ack) v) h
-consuming-step n J p e v h suits =
-    stays J (J ++ e ∷ []) p v (recorded n p e v) h (plain-same n p e v tt) (λ k t. consumer-push J e p k t ∙ plain-consumer p k t (journal.consumer J p k t) e tt)
+pub consuming-step : (J : List Entry) (p : Place) (e : Entry) (v : VhostState) → HasConsumers J p v → Suits J e → HasConsumers (J ++ e ∷ []) p (recorded p e v)
+consuming-step J p (Consumed place client queue tag no_ack prefetch) v h suits =
+    consumed J p place client queue tag no_ack prefetch v (same_place place p) refl (recorded-grows p (Consumed place client queue tag no_ack prefetch) v) h suits
+consuming-step J p (Cancelled place client tag) v h suits = cancelled J p place client tag v (same_place place p) refl h
+consuming-step J p (Closed place connection) v h suits = closed J p place connection v (same_place place p) refl h
+consuming-step J p (GoneQueue place queue) v h suits = gone J p place queue v (same_place place p) refl h
+consuming-step J p (Delivered place client tag queue copy no_ack) v h suits =
+    delivered J p place client tag queue copy no_ack (same_place place p) v (recorded-grows p (Delivered place client tag queue copy no_ack) v) h
+consuming-step J p e v h suits =
+    stays J (J ++ e ∷ []) p v (recorded p e v) h (plain-same p e v tt) (λ k t. consumer-push J e p k t ∙ plain-consumer p k t (journal.consumer J p k t) e tt)

@@ -12,7 +12,7 @@ use Rattle.fed_journal.specs.declared.entry.Entry.TheVariants.{Begun, MadeQueue,
 use Rattle.fed_journal.specs.Names.{same_text, same_place}
 use Rattle.fed_journal.specs.Holders as holders
 use Rattle.fed_journal.specs.Copies.{Ready, Held, Left, copy_count, publication_of, entered_by}
-use Rattle.fed_journal.specs.Routes.{bound, unbound}
+use Rattle.route_core.specs.Routing.{bound, unbound}
 use Rattle.broker_store.specs.declared.mailbox.Sweep.TheVariants as sweeps
 use Rattle.broker_store.specs.Mail as mail
 use Rattle.broker_store.specs.Queues.{queue_of}
@@ -143,59 +143,59 @@ still : (J : List Entry) (e : Entry) (p : Place) (v w : VhostState) → HasCopie
 still J e p v w has known suits none moves hands keeps same =
     copies-from J e p v w has none (homes-step J e known suits has.homes) (held-step J e suits has.held) (still-all J e p v w moves hands keeps same)
 
-number-step : (n : ℕ) (J : List Entry) (p : Place) (e : Entry) (v : VhostState) → HasCopies J p v → ((c : ℕ) → copy_count J < c → publication_of c J ≡ None) → Suits J e → ((q : List ℕ) → entered_by p q e ≡ None) → ((q : List ℕ) → IsStep J e p v (recorded n p e v) q) → HasCopies (J ++ e ∷ []) p (recorded n p e v)
-number-step n J p e v has known suits none steps = copies-from J e p v (recorded n p e v) has none (homes-step J e known suits has.homes) (held-step J e suits has.held) steps
+number-step : (J : List Entry) (p : Place) (e : Entry) (v : VhostState) → HasCopies J p v → ((c : ℕ) → copy_count J < c → publication_of c J ≡ None) → Suits J e → ((q : List ℕ) → entered_by p q e ≡ None) → ((q : List ℕ) → IsStep J e p v (recorded p e v) q) → HasCopies (J ++ e ∷ []) p (recorded p e v)
+number-step J p e v has known suits none steps = copies-from J e p v (recorded p e v) has none (homes-step J e known suits has.homes) (held-step J e suits has.held) steps
 
 -- the queues of the place after one entry more
-pub copies-step : (n : ℕ) (J : List Entry) (p : Place) (e : Entry) (v : VhostState) → HasCopies J p v → ((c : ℕ) → copy_count J < c → publication_of c J ≡ None) → Suits J e → IsRouted p v e → Keeps J p v e (recorded n p e v) → IsFresh J p v e (recorded n p e v) → HasCopies (J ++ e ∷ []) p (recorded n p e v)
-copies-step n J p (Published x) v has known suits routed keeps fresh = published-by J x p v (same_place x.place p) refl known suits has routed keeps
-copies-step n J p (Delivered place client tag queue copy no_ack) v has known suits routed keeps fresh =
-    number-step n J p (Delivered place client tag queue copy no_ack) v has known suits (λ q. refl)
+pub copies-step : (J : List Entry) (p : Place) (e : Entry) (v : VhostState) → HasCopies J p v → ((c : ℕ) → copy_count J < c → publication_of c J ≡ None) → Suits J e → IsRouted p v e → Keeps J p v e (recorded p e v) → IsFresh J p v e (recorded p e v) → HasCopies (J ++ e ∷ []) p (recorded p e v)
+copies-step J p (Published x) v has known suits routed keeps fresh = published-by J x p v (same_place x.place p) refl known suits has routed keeps
+copies-step J p (Delivered place client tag queue copy no_ack) v has known suits routed keeps fresh =
+    number-step J p (Delivered place client tag queue copy no_ack) v has known suits (λ q. refl)
     (delivered-by J place p client tag queue copy no_ack v (same_place place p) refl (first-home J place queue copy has.homes suits) keeps fresh)
-copies-step n J p (Took l s c) v has known suits routed keeps fresh =
-    number-step n J p (Took l s c) v has known suits (λ q. refl)
-    (λ q. with_hold-step J (Took l s c) p v (recorded n p (Took l s c) v) c (Held (holders.Session l s)) (numbers.Held (session_holder n s)) q (λ d x t. refl) (λ d o. tt) keeps refl (all-rows (mail.handed c (session_holder n s)) (rows.handed c (session_holder n s)) (λ x. refl) refl v.queues q))
-copies-step n J p (Settled l s c) v has known suits routed keeps fresh =
-    number-step n J p (Settled l s c) v has known suits (λ q. refl)
-    (λ q. without-step J (Settled l s c) p v (recorded n p (Settled l s c) v) c q (λ d x t. refl) (λ d o. tt) keeps (all-rows (mail.left c) (rows.without c) (λ x. refl) refl v.queues q))
-copies-step n J p (Acked place client c) v has known suits routed keeps fresh =
-    number-step n J p (Acked place client c) v has known suits (λ q. refl)
-    (λ q. without-step J (Acked place client c) p v (recorded n p (Acked place client c) v) c q (λ d x t. refl) (λ d o. tt) keeps (all-rows (mail.left c) (rows.without c) (λ x. refl) refl v.queues q))
-copies-step n J p (Rejected place client c) v has known suits routed keeps fresh =
-    number-step n J p (Rejected place client c) v has known suits (λ q. refl)
-    (λ q. without-step J (Rejected place client c) p v (recorded n p (Rejected place client c) v) c q (λ d x t. refl) (λ d o. tt) keeps (all-rows (mail.left c) (rows.without c) (λ x. refl) refl v.queues q))
-copies-step n J p (Requeued place client c) v has known suits routed keeps fresh =
-    number-step n J p (Requeued place client c) v has known suits (λ q. refl)
-    (λ q. with_hold-step J (Requeued place client c) p v (recorded n p (Requeued place client c) v) c Ready numbers.Ready q (λ d x t. refl) (λ d o. tt) keeps tt (all-rows (mail.released c) (rows.released c) (λ x. refl) refl v.queues q))
-copies-step n J p (Purged place queue) v has known suits routed keeps fresh =
-    number-step n J p (Purged place queue) v has known suits (λ q. refl) (purged-by J place p queue v (same_place place p) refl keeps)
-copies-step n J p (GoneQueue place queue) v has known suits routed keeps fresh =
-    number-step n J p (GoneQueue place queue) v has known suits (λ q. refl) (gone-by J place p queue v (same_place place p) refl keeps)
-copies-step n J p (Closed place connection) v has known suits routed keeps fresh =
-    number-step n J p (Closed place connection) v has known suits (λ q. refl) (closed-by J place p connection v (same_place place p) refl keeps)
-copies-step n J p (Flushed broker) v has known suits routed keeps fresh =
-    number-step n J p (Flushed broker) v has known suits (λ q. refl) (flushed-by J broker p v (same_text broker p.broker) keeps)
-copies-step n J p (MadeQueue place queue options owner) v has known suits routed keeps fresh =
-    still J (MadeQueue place queue options owner) p v (recorded n p (MadeQueue place queue options owner) v) has known suits (λ q. refl) (λ c x t. refl) (λ c. tt) keeps
+copies-step J p (Took l s c) v has known suits routed keeps fresh =
+    number-step J p (Took l s c) v has known suits (λ q. refl)
+    (λ q. with_hold-step J (Took l s c) p v (recorded p (Took l s c) v) c (Held (holders.Session l s)) (numbers.Held (session_holder s)) q (λ d x t. refl) (λ d o. tt) keeps refl (all-rows (mail.handed c (session_holder s)) (rows.handed c (session_holder s)) (λ x. refl) refl v.queues q))
+copies-step J p (Settled l s c) v has known suits routed keeps fresh =
+    number-step J p (Settled l s c) v has known suits (λ q. refl)
+    (λ q. without-step J (Settled l s c) p v (recorded p (Settled l s c) v) c q (λ d x t. refl) (λ d o. tt) keeps (all-rows (mail.left c) (rows.without c) (λ x. refl) refl v.queues q))
+copies-step J p (Acked place client c) v has known suits routed keeps fresh =
+    number-step J p (Acked place client c) v has known suits (λ q. refl)
+    (λ q. without-step J (Acked place client c) p v (recorded p (Acked place client c) v) c q (λ d x t. refl) (λ d o. tt) keeps (all-rows (mail.left c) (rows.without c) (λ x. refl) refl v.queues q))
+copies-step J p (Rejected place client c) v has known suits routed keeps fresh =
+    number-step J p (Rejected place client c) v has known suits (λ q. refl)
+    (λ q. without-step J (Rejected place client c) p v (recorded p (Rejected place client c) v) c q (λ d x t. refl) (λ d o. tt) keeps (all-rows (mail.left c) (rows.without c) (λ x. refl) refl v.queues q))
+copies-step J p (Requeued place client c) v has known suits routed keeps fresh =
+    number-step J p (Requeued place client c) v has known suits (λ q. refl)
+    (λ q. with_hold-step J (Requeued place client c) p v (recorded p (Requeued place client c) v) c Ready numbers.Ready q (λ d x t. refl) (λ d o. tt) keeps tt (all-rows (mail.released c) (rows.released c) (λ x. refl) refl v.queues q))
+copies-step J p (Purged place queue) v has known suits routed keeps fresh =
+    number-step J p (Purged place queue) v has known suits (λ q. refl) (purged-by J place p queue v (same_place place p) refl keeps)
+copies-step J p (GoneQueue place queue) v has known suits routed keeps fresh =
+    number-step J p (GoneQueue place queue) v has known suits (λ q. refl) (gone-by J place p queue v (same_place place p) refl keeps)
+copies-step J p (Closed place connection) v has known suits routed keeps fresh =
+    number-step J p (Closed place connection) v has known suits (λ q. refl) (closed-by J place p connection v (same_place place p) refl keeps)
+copies-step J p (Flushed broker) v has known suits routed keeps fresh =
+    number-step J p (Flushed broker) v has known suits (λ q. refl) (flushed-by J broker p v (same_text broker p.broker) keeps)
+copies-step J p (MadeQueue place queue options owner) v has known suits routed keeps fresh =
+    still J (MadeQueue place queue options owner) p v (recorded p (MadeQueue place queue options owner) v) has known suits (λ q. refl) (λ c x t. refl) (λ c. tt) keeps
     (λ q. cond-rows (same_place place p) v (with_queue queue options owner v) q (made-rows (queue, made_queue v.made options owner) refl v.queues q))
-copies-step n J p (MadeExchange place exchange shape) v has known suits routed keeps fresh =
-    still J (MadeExchange place exchange shape) p v (recorded n p (MadeExchange place exchange shape) v) has known suits (λ q. refl) (λ c x t. refl) (λ c. tt) keeps
+copies-step J p (MadeExchange place exchange shape) v has known suits routed keeps fresh =
+    still J (MadeExchange place exchange shape) p v (recorded p (MadeExchange place exchange shape) v) has known suits (λ q. refl) (λ c x t. refl) (λ c. tt) keeps
     (λ q. cond-rows (same_place place p) v (with_exchange exchange shape v) q refl)
-copies-step n J p (Bound place binding) v has known suits routed keeps fresh =
-    still J (Bound place binding) p v (recorded n p (Bound place binding) v) has known suits (λ q. refl) (λ c x t. refl) (λ c. tt) keeps
+copies-step J p (Bound place binding) v has known suits routed keeps fresh =
+    still J (Bound place binding) p v (recorded p (Bound place binding) v) has known suits (λ q. refl) (λ c x t. refl) (λ c. tt) keeps
     (λ q. cond-rows (same_place place p) v (with_routing (bound binding v.routing) v) q refl)
-copies-step n J p (Unbound place binding) v has known suits routed keeps fresh =
-    still J (Unbound place binding) p v (recorded n p (Unbound place binding) v) has known suits (λ q. refl) (λ c x t. refl) (λ c. tt) keeps
+copies-step J p (Unbound place binding) v has known suits routed keeps fresh =
+    still J (Unbound place binding) p v (recorded p (Unbound place binding) v) has known suits (λ q. refl) (λ c x t. refl) (λ c. tt) keeps
     (λ q. cond-rows (same_place place p) v (with_routing (unbound binding v.routing) v) q refl)
-copies-step n J p (Consumed place client queue tag no_ack prefetch) v has known suits routed keeps fresh =
-    still J (Consumed place client queue tag no_ack prefetch) p v (recorded n p (Consumed place client queue tag no_ack prefetch) v) has known suits (λ q. refl) (λ c x t. refl) (λ c. tt) keeps
+copies-step J p (Consumed place client queue tag no_ack prefetch) v has known suits routed keeps fresh =
+    still J (Consumed place client queue tag no_ack prefetch) p v (recorded p (Consumed place client queue tag no_ack prefetch) v) has known suits (λ q. refl) (λ c x t. refl) (λ c. tt) keeps
     (λ q. cond-rows (same_place place p) v (with_consumer (new_consumer client queue tag no_ack prefetch v) v) q refl)
-copies-step n J p (Cancelled place client tag) v has known suits routed keeps fresh =
-    still J (Cancelled place client tag) p v (recorded n p (Cancelled place client tag) v) has known suits (λ q. refl) (λ c x t. refl) (λ c. tt) keeps
+copies-step J p (Cancelled place client tag) v has known suits routed keeps fresh =
+    still J (Cancelled place client tag) p v (recorded p (Cancelled place client tag) v) has known suits (λ q. refl) (λ c x t. refl) (λ c. tt) keeps
     (λ q. cond-rows (same_place place p) v (without_consumer client tag v) q refl)
-copies-step n J p (Begun broker cluster kept) v has known suits routed keeps fresh = still J (Begun broker cluster kept) p v v has known suits (λ q. refl) (λ c x t. refl) (λ c. tt) keeps (λ q. refl)
-copies-step n J p (Sent l s c) v has known suits routed keeps fresh = still J (Sent l s c) p v v has known suits (λ q. refl) (λ d x t. refl) (λ d. tt) keeps (λ q. refl)
-copies-step n J p (Confirmed l s c) v has known suits routed keeps fresh = still J (Confirmed l s c) p v v has known suits (λ q. refl) (λ d x t. refl) (λ d. tt) keeps (λ q. refl)
-copies-step n J p (Noted l s c) v has known suits routed keeps fresh = still J (Noted l s c) p v v has known suits (λ q. refl) (λ d x t. refl) (λ d. tt) keeps (λ q. refl)
-copies-step n J p (Opened l s ready) v has known suits routed keeps fresh = still J (Opened l s ready) p v v has known suits (λ q. refl) (λ c x t. refl) (λ c. tt) keeps (λ q. refl)
-copies-step n J p (ShovelSet place name shovel) v has known suits routed keeps fresh = still J (ShovelSet place name shovel) p v v has known suits (λ q. refl) (λ c x t. refl) (λ c. tt) keeps (λ q. refl)
+copies-step J p (Begun broker cluster kept) v has known suits routed keeps fresh = still J (Begun broker cluster kept) p v v has known suits (λ q. refl) (λ c x t. refl) (λ c. tt) keeps (λ q. refl)
+copies-step J p (Sent l s c) v has known suits routed keeps fresh = still J (Sent l s c) p v v has known suits (λ q. refl) (λ d x t. refl) (λ d. tt) keeps (λ q. refl)
+copies-step J p (Confirmed l s c) v has known suits routed keeps fresh = still J (Confirmed l s c) p v v has known suits (λ q. refl) (λ d x t. refl) (λ d. tt) keeps (λ q. refl)
+copies-step J p (Noted l s c) v has known suits routed keeps fresh = still J (Noted l s c) p v v has known suits (λ q. refl) (λ d x t. refl) (λ d. tt) keeps (λ q. refl)
+copies-step J p (Opened l s ready) v has known suits routed keeps fresh = still J (Opened l s ready) p v v has known suits (λ q. refl) (λ c x t. refl) (λ c. tt) keeps (λ q. refl)
+copies-step J p (ShovelSet place name shovel) v has known suits routed keeps fresh = still J (ShovelSet place name shovel) p v v has known suits (λ q. refl) (λ c x t. refl) (λ c. tt) keeps (λ q. refl)

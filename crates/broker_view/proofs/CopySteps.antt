@@ -145,7 +145,7 @@ channel-freed J p q v w n c place k tag r here is keeps =
 freed-stands : (J : List Entry) (p : Place) (q : List ℕ) (v w : VhostState) (n c : ℕ) (t : Standing) (hold : Hold) → Keeps J p v (Closed p n) w → StandsAs J p v c t hold → StandsAs (J ++ Closed p n ∷ []) p w c (closed p n t) (freed_hold n 0 v.clients hold)
 freed-stands J p q v w n c Ready numbers.Ready keeps k = subst (λ hold. StandsAs (J ++ Closed p n ∷ []) p w c Ready hold) (sym (freed-ready n 0 v.clients)) tt
 freed-stands J p q v w n c (Held (holders.Session l s)) (numbers.Held r) keeps k =
-    subst (λ hold. StandsAs (J ++ Closed p n ∷ []) p w c (Held (holders.Session l s)) hold) (sym (freed-session n 0 v.clients r k)) k
+    subst (λ hold. StandsAs (J ++ Closed p n ∷ []) p w c (Held (holders.Session l s)) hold) (sym (freed-session n 0 v.clients r (ap (λ (x : Holder). x.link) k))) k
 freed-stands J p q v w n c (Held (holders.Channel place client tag)) (numbers.Held r) keeps k =
     channel-freed J p q v w n c place client tag r k.here k (keeps c (holders.Channel place client tag) r tt k)
 freed-stands J p q v w n c Ready (numbers.Held r) keeps k = absurd k

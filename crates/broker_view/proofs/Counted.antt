@@ -17,7 +17,7 @@ use Rattle.fed_journal.specs.declared.entry.Entry.{Entry}
 use Rattle.fed_journal.specs.declared.entry.Entry.TheVariants.{MadeQueue, MadeExchange, GoneQueue, Bound, Unbound, Published, Flushed, Took, Settled, Consumed, Cancelled, Delivered, Acked, Rejected, Requeued, Purged, Closed}
 use Rattle.fed_journal.specs.Names.{same_text, same_place}
 use Rattle.fed_journal.specs.Copies.{copy_count, copies_made, is_copy_of, publication_of}
-use Rattle.fed_journal.specs.Routes.{bound, unbound}
+use Rattle.route_core.specs.Routing.{bound, unbound}
 use Rattle.broker_store.specs.declared.mailbox.CopyMessage.{CopyMessage}
 use Rattle.broker_store.specs.declared.mailbox.Sweep.TheVariants as sweeps
 use Rattle.broker_store.specs.Mail.{Mail, entered, fresh, as_seen, handed, left, given, released, released_from, purged, swept}
@@ -160,30 +160,30 @@ still n queues h = raise n (n + 0) queues (omega arith) h
 maybe : (b : Bool) (u v : VhostState) (n : ℕ) → AreAbove n u.queues → AreAbove n v.queues → AreAbove (n + 0) (if b then u else v).queues
 maybe b u v n h k = at-place b u v n (n + 0) (omega arith) (still n u.queues h) k
 
-grown : (l : ℕ) (J : List Entry) (p : Place) (e : Entry) (v : VhostState) (n : ℕ) → n ≡ copy_count J + 1 → Suits J e → AreAbove n v.queues → AreAbove (n + copies_made e) (recorded l p e v).queues
-grown l J p (Published x) v n same suits h =
+grown : (J : List Entry) (p : Place) (e : Entry) (v : VhostState) (n : ℕ) → n ≡ copy_count J + 1 → Suits J e → AreAbove n v.queues → AreAbove (n + copies_made e) (recorded p e v).queues
+grown J p (Published x) v n same suits h =
     at-place (same_place x.place p) (with_entered x.queues x.first x.message v) v n (n + length x.queues) (omega arith) (above-published x.queues x.first n x.message v.queues (suits.0 ∙ ap (λ k. first_of k x.queues) (sym same)) h) h
-grown l J p (MadeQueue place queue options owner) v n same suits h =
+grown J p (MadeQueue place queue options owner) v n same suits h =
     maybe (same_place place p) (with_queue queue options owner v) v n (All-push (λ (q : Named Message). IsLast n q.1) v.queues (queue, made_queue v.made options owner) h (All-nil (λ (row : Row). row.copy < n), All-nil (λ (k : CopyMessage Message). k.number < n))) h
-grown l J p (MadeExchange place exchange shape) v n same suits h = maybe (same_place place p) (with_exchange exchange shape v) v n h h
-grown l J p (GoneQueue place queue) v n same suits h =
+grown J p (MadeExchange place exchange shape) v n same suits h = maybe (same_place place p) (with_exchange exchange shape v) v n h h
+grown J p (GoneQueue place queue) v n same suits h =
     maybe (same_place place p) (without_queue queue v) v n (All-filter (λ (q : Named Message). not (bytes_eq q.0 queue)) (λ (q : Named Message). IsLast n q.1) v.queues h) h
-grown l J p (Bound place binding) v n same suits h = maybe (same_place place p) (with_routing (bound binding v.routing) v) v n h h
-grown l J p (Unbound place binding) v n same suits h = maybe (same_place place p) (with_routing (unbound binding v.routing) v) v n h h
-grown l J p (Flushed broker) v n same suits h = maybe (same_text broker p.broker) (all_swept sweeps.Store v) v n (above-all (swept sweeps.Store) n v.queues last-stored h) h
-grown l J p (Took link session copy) v n same suits h = still n _ (above-all (handed copy (session_holder l session)) n v.queues (last-handed copy (session_holder l session)) h)
-grown l J p (Settled link session copy) v n same suits h = still n _ (above-all (left copy) n v.queues (last-left copy) h)
-grown l J p (Consumed place client queue tag no_ack prefetch) v n same suits h =
+grown J p (Bound place binding) v n same suits h = maybe (same_place place p) (with_routing (bound binding v.routing) v) v n h h
+grown J p (Unbound place binding) v n same suits h = maybe (same_place place p) (with_routing (unbound binding v.routing) v) v n h h
+grown J p (Flushed broker) v n same suits h = maybe (same_text broker p.broker) (all_swept sweeps.Store v) v n (above-all (swept sweeps.Store) n v.queues last-stored h) h
+grown J p (Took link session copy) v n same suits h = still n _ (above-all (handed copy (session_holder session)) n v.queues (last-handed copy (session_holder session)) h)
+grown J p (Settled link session copy) v n same suits h = still n _ (above-all (left copy) n v.queues (last-left copy) h)
+grown J p (Consumed place client queue tag no_ack prefetch) v n same suits h =
     maybe (same_place place p) (with_consumer (new_consumer client queue tag no_ack prefetch v) v) v n h h
-grown l J p (Cancelled place client tag) v n same suits h = maybe (same_place place p) (without_consumer client tag v) v n h h
-grown l J p (Delivered place client tag queue copy no_ack) v n same suits h =
+grown J p (Cancelled place client tag) v n same suits h = maybe (same_place place p) (without_consumer client tag v) v n h h
+grown J p (Delivered place client tag queue copy no_ack) v n same suits h =
     maybe (same_place place p) (with_handed client tag queue copy no_ack v) v n (above-changed queue (given copy (holder_as client tag v) no_ack) n v.queues (last-given copy (holder_as client tag v) no_ack) h) h
-grown l J p (Acked place client copy) v n same suits h = still n _ (above-all (left copy) n v.queues (last-left copy) h)
-grown l J p (Rejected place client copy) v n same suits h = still n _ (above-all (left copy) n v.queues (last-left copy) h)
-grown l J p (Requeued place client copy) v n same suits h = still n _ (above-all (released copy) n v.queues (last-released copy) h)
-grown l J p (Purged place queue) v n same suits h = maybe (same_place place p) (with_purged queue v) v n (above-changed queue purged n v.queues last-purged h) h
-grown l J p (Closed place connection) v n same suits h = maybe (same_place place p) (disconnected connection v) v n (above-freed connection 0 v.clients n v.queues h) h
-grown l J p _ v n same suits h = still n v.queues h
+grown J p (Acked place client copy) v n same suits h = still n _ (above-all (left copy) n v.queues (last-left copy) h)
+grown J p (Rejected place client copy) v n same suits h = still n _ (above-all (left copy) n v.queues (last-left copy) h)
+grown J p (Requeued place client copy) v n same suits h = still n _ (above-all (released copy) n v.queues (last-released copy) h)
+grown J p (Purged place queue) v n same suits h = maybe (same_place place p) (with_purged queue v) v n (above-changed queue purged n v.queues last-purged h) h
+grown J p (Closed place connection) v n same suits h = maybe (same_place place p) (disconnected connection v) v n (above-freed connection 0 v.clients n v.queues h) h
+grown J p _ v n same suits h = still n v.queues h
 
 -- no copy has a number beyond the count after one entry more
 pub fresh-step : (J : List Entry) (e : Entry) → ((c : ℕ) → copy_count J < c → publication_of c J ≡ None) → Suits J e → (c : ℕ) → copy_count (J ++ e ∷ []) < c → publication_of c (J ++ e ∷ []) ≡ None
@@ -192,9 +192,9 @@ fresh-step J e known suits c far =
     publication-skip c J (e ∷ []) (known c (omega (arith, beyond-all))) ∙ alone c (copy_count J) J e refl suits beyond-all
 
 -- the numbers of copies are below the next one after each entry
-pub counted-step : (n : ℕ) (J : List Entry) (p : Place) (e : Entry) (v : VhostState) → IsCounted J v → Suits J e → IsCounted (J ++ e ∷ []) (recorded n p e v)
-counted-step n J p e v h suits = record {
+pub counted-step : (J : List Entry) (p : Place) (e : Entry) (v : VhostState) → IsCounted J v → Suits J e → IsCounted (J ++ e ∷ []) (recorded p e v)
+counted-step J p e v h suits = record {
   known = fresh-step J e h.known suits;
   above =
-      raise (copy_count J + 1 + copies_made e) (copy_count (J ++ e ∷ []) + 1) (recorded n p e v).queues (omega (arith, count-push J e)) (grown n J p e v (copy_count J + 1) refl suits h.above);
+      raise (copy_count J + 1 + copies_made e) (copy_count (J ++ e ∷ []) + 1) (recorded p e v).queues (omega (arith, count-push J e)) (grown J p e v (copy_count J + 1) refl suits h.above);
 }

@@ -195,7 +195,7 @@ find-stands J p v (r ∷ rs) c row all is =
 -- who is of that client holds it as the journal says
 client-of : (J : List Entry) (p : Place) (v : VhostState) (k : Client) (c n : ℕ) (t : Standing) (hold : Hold) → StandsAs J p v c t hold → option_map_or (rows.is_of_client n) (rows.holder_in hold) false ≡ true → position (consumers.is_client k) v.clients ≡ Some n → is_client_of p k (holder_in t) ≡ true
 client-of J p v k c n (Held (holders.Session l s)) (numbers.Held r) stands of at =
-    absurd (true≢false (sym of ∙ ap (λ b. not b && (r.number == n)) stands))
+    absurd (true≢false (sym of ∙ ap (λ (x : Holder). not x.link && (r.number == n)) stands))
 client-of J p v k c n (Held (holders.Channel place client tag)) (numbers.Held r) stands of at =
     let parts : (not r.link ≡ true) × ((r.number == n) ≡ true) = and_parts (not r.link) (r.number == n) of in
     let same : client ≡ k = number-once client k v.clients r.number stands.number (at ∙ ap Some (sym (eqb-true r.number n parts.1))) in

@@ -82,9 +82,9 @@ same-consumers-if : (v w : VhostState) (b : Bool) → w.consumers ≡ v.consumer
 same-consumers-if v w true same = same
 same-consumers-if v w false same = refl
 
-counts-handed : (J : List Entry) (p place : Place) (client : Client) (tag queue : List ℕ) (copy : ℕ) (no_ack : Bool) (v : VhostState) (k : Client) (under : List ℕ) (c part : ℕ) → (copy ≡ c → ⊥) → CountsFor J p v.consumers k under c part → CountsFor (J ++ Delivered place client tag queue copy no_ack ∷ []) p (recorded 0 p (Delivered place client tag queue copy no_ack) v).consumers k under c part
+counts-handed : (J : List Entry) (p place : Place) (client : Client) (tag queue : List ℕ) (copy : ℕ) (no_ack : Bool) (v : VhostState) (k : Client) (under : List ℕ) (c part : ℕ) → (copy ≡ c → ⊥) → CountsFor J p v.consumers k under c part → CountsFor (J ++ Delivered place client tag queue copy no_ack ∷ []) p (recorded p (Delivered place client tag queue copy no_ack) v).consumers k under c part
 counts-handed J p place client tag queue copy no_ack v k under c part other counts t n at =
-    let same : (recorded 0 p (Delivered place client tag queue copy no_ack) v).consumers ≡ v.consumers = same-consumers-if v (with_handed client tag queue copy no_ack v) (same_place place p) refl in
+    let same : (recorded p (Delivered place client tag queue copy no_ack) v).consumers ≡ v.consumers = same-consumers-if v (with_handed client tag queue copy no_ack v) (same_place place p) refl in
     counts t n (ap (part_of k t) (sym same) ∙ at)
     ∙ ap (λ b. same_text under t && b) (sym (ap (list_any (λ m. m == c)) (handed-push J (Delivered place client tag queue copy no_ack) p k t) ∙ any-handed (journal.is_same p k t place client tag) (journal.handed_since J p k t) copy c other))
 
@@ -113,28 +113,28 @@ counts-begun J p place client queue tag no_ack prefetch v k under c part false a
 
 -- ---- each entry
 
-counts-step : (n : ℕ) (J : List Entry) (p : Place) (e : Entry) (v : VhostState) (k : Client) (under : List ℕ) (c part : ℕ) → HasConsumers J p v → Suits J e → NotHanded e c → part ≤ v.begun → CountsFor J p v.consumers k under c part → CountsFor (J ++ e ∷ []) p (recorded n p e v).consumers k under c part
-counts-step n J p (Consumed place client queue tag no_ack prefetch) v k under c part h suits other last counts =
+counts-step : (J : List Entry) (p : Place) (e : Entry) (v : VhostState) (k : Client) (under : List ℕ) (c part : ℕ) → HasConsumers J p v → Suits J e → NotHanded e c → part ≤ v.begun → CountsFor J p v.consumers k under c part → CountsFor (J ++ e ∷ []) p (recorded p e v).consumers k under c part
+counts-step J p (Consumed place client queue tag no_ack prefetch) v k under c part h suits other last counts =
     counts-begun J p place client queue tag no_ack prefetch v k under c part (same_place place p) refl h suits last counts
-counts-step n J p (Delivered place client tag queue copy no_ack) v k under c part h suits other last counts =
+counts-step J p (Delivered place client tag queue copy no_ack) v k under c part h suits other last counts =
     counts-handed J p place client tag queue copy no_ack v k under c part other counts
-counts-step n J p (Cancelled place client tag) v k under c part h suits other last counts =
-    counts-fewer J (J ++ Cancelled place client tag ∷ []) p v.consumers (recorded n p (Cancelled place client tag) v).consumers k under c part counts (left-part v (without_consumer client tag v) (is_consumer client tag) (same_place place p) h.single refl k) (handed-push J (Cancelled place client tag) p k)
-counts-step n J p (Closed place connection) v k under c part h suits other last counts =
-    counts-fewer J (J ++ Closed place connection ∷ []) p v.consumers (recorded n p (Closed place connection) v).consumers k under c part counts (left-part v (disconnected connection v) (is_on connection) (same_place place p) h.single refl k) (handed-push J (Closed place connection) p k)
-counts-step n J p (GoneQueue place queue) v k under c part h suits other last counts =
-    counts-fewer J (J ++ GoneQueue place queue ∷ []) p v.consumers (recorded n p (GoneQueue place queue) v).consumers k under c part counts (left-part v (without_queue queue v) (consumes_from queue) (same_place place p) h.single refl k) (handed-push J (GoneQueue place queue) p k)
-counts-step n J p e v k under c part h suits other last counts =
-    counts-fewer J (J ++ e ∷ []) p v.consumers (recorded n p e v).consumers k under c part counts
-    (λ t m at. ap (part_of k t) (sym (plain-same n p e v tt).consumers) ∙ at)
+counts-step J p (Cancelled place client tag) v k under c part h suits other last counts =
+    counts-fewer J (J ++ Cancelled place client tag ∷ []) p v.consumers (recorded p (Cancelled place client tag) v).consumers k under c part counts (left-part v (without_consumer client tag v) (is_consumer client tag) (same_place place p) h.single refl k) (handed-push J (Cancelled place client tag) p k)
+counts-step J p (Closed place connection) v k under c part h suits other last counts =
+    counts-fewer J (J ++ Closed place connection ∷ []) p v.consumers (recorded p (Closed place connection) v).consumers k under c part counts (left-part v (disconnected connection v) (is_on connection) (same_place place p) h.single refl k) (handed-push J (Closed place connection) p k)
+counts-step J p (GoneQueue place queue) v k under c part h suits other last counts =
+    counts-fewer J (J ++ GoneQueue place queue ∷ []) p v.consumers (recorded p (GoneQueue place queue) v).consumers k under c part counts (left-part v (without_queue queue v) (consumes_from queue) (same_place place p) h.single refl k) (handed-push J (GoneQueue place queue) p k)
+counts-step J p e v k under c part h suits other last counts =
+    counts-fewer J (J ++ e ∷ []) p v.consumers (recorded p e v).consumers k under c part counts
+    (λ t m at. ap (part_of k t) (sym (plain-same p e v tt).consumers) ∙ at)
     (λ t. handed-push J e p k t ∙ plain-handed p k t (journal.handed_since J p k t) e tt)
 
 -- who holds a copy keeps it as the journal has it
-pub holder-step : (n : ℕ) (J : List Entry) (p : Place) (e : Entry) (v : VhostState) (c : ℕ) (h : holders.Holder) (r : Holder) → HasConsumers J p v → Suits J e → NotHanded e c → IsHolder J p v c h r → IsHolder (J ++ e ∷ []) p (recorded n p e v) c h r
-holder-step n J p e v c (holders.Session link session) r consumers suits other h = h
-holder-step n J p e v c (holders.Channel place client tag) r consumers suits other h =
-    channel-kept J (J ++ e ∷ []) p v (recorded n p e v) c place client tag r (recorded-grows n p e v) h
-    (counts-step n J p e v client tag c r.part consumers suits other h.last h.counts)
+pub holder-step : (J : List Entry) (p : Place) (e : Entry) (v : VhostState) (c : ℕ) (h : holders.Holder) (r : Holder) → HasConsumers J p v → Suits J e → NotHanded e c → IsHolder J p v c h r → IsHolder (J ++ e ∷ []) p (recorded p e v) c h r
+holder-step J p e v c (holders.Session link session) r consumers suits other h = h
+holder-step J p e v c (holders.Channel place client tag) r consumers suits other h =
+    channel-kept J (J ++ e ∷ []) p v (recorded p e v) c place client tag r (recorded-grows p e v) h
+    (counts-step J p e v client tag c r.part consumers suits other h.last h.counts)
 
 -- ---- who is handed a copy
 
@@ -229,8 +229,8 @@ fresh-by J p k tag q c no_ack v true here h =
     }
 
 -- who is handed a copy holds it as the journal has it
-pub holder-fresh : (n : ℕ) (J : List Entry) (p : Place) (k : Client) (tag q : List ℕ) (c : ℕ) (no_ack : Bool) (v : VhostState) → HasConsumers J p v → IsChannel (J ++ Delivered p k tag q c no_ack ∷ []) p (recorded n p (Delivered p k tag q c no_ack) v) c p k tag (holder_as k tag v)
-holder-fresh n J p k tag q c no_ack v h = fresh-by J p k tag q c no_ack v (same_place p p) (same_place-refl p) h
+pub holder-fresh : (J : List Entry) (p : Place) (k : Client) (tag q : List ℕ) (c : ℕ) (no_ack : Bool) (v : VhostState) → HasConsumers J p v → IsChannel (J ++ Delivered p k tag q c no_ack ∷ []) p (recorded p (Delivered p k tag q c no_ack) v) c p k tag (holder_as k tag v)
+holder-fresh J p k tag q c no_ack v h = fresh-by J p k tag q c no_ack v (same_place p p) (same_place-refl p) h
 
 -- ---- what counts for a prefetch
 
@@ -250,7 +250,7 @@ counts-by J p v k t consumer c place client tag r false other at is h =
 pub counts-as : (J : List Entry) (p : Place) (v : VhostState) (k : Client) (t : List ℕ) (consumer : Consumer) (c : ℕ) (h : holders.Holder) (r : Holder) → HasConsumers J p v → consumer_of k t v ≡ Some consumer → IsHolder J p v c h r → same_holder consumer.holder r ≡ (journal.is_consumer_of p k t (Some h) && list_any (λ n. n == c) (journal.handed_since J p k t))
 counts-as J p v k t consumer c (holders.Session link session) r consumers is h =
     ap (λ b. (beq b r.link && (consumer.holder.number == r.number)) && (consumer.holder.part == r.part)) (found-consumer J p v k t consumer consumers is).numbered.client'
-    ∙ ap (λ b. (beq false b && (consumer.holder.number == r.number)) && (consumer.holder.part == r.part)) h
+    ∙ ap (λ b. (beq false b && (consumer.holder.number == r.number)) && (consumer.holder.part == r.part)) (ap (λ (x : Holder). x.link) h)
 counts-as J p v k t consumer c (holders.Channel place client tag) r consumers is h =
     let at : IsFound v k t consumer = found-consumer J p v k t consumer consumers is in
     ap (λ b. (beq b r.link && (consumer.holder.number == r.number)) && (consumer.holder.part == r.part)) at.numbered.client'
@@ -264,5 +264,5 @@ not-handed : (e : Entry) (c : ℕ) → ((place : Place) (client : Client) (tag q
 not-handed (Delivered place client tag queue copy no_ack) c h = λ same. h place client tag queue no_ack (ap (λ n. Delivered place client tag queue n no_ack) same)
 not-handed _ c h = tt
 
-pub holder-kept : (n : ℕ) (J : List Entry) (p : Place) (e : Entry) (v : VhostState) (c : ℕ) (h : holders.Holder) (r : Holder) → HasConsumers J p v → Suits J e → ((place : Place) (client : Client) (tag queue : List ℕ) (no_ack : Bool) → e ≡ Delivered place client tag queue c no_ack → ⊥) → IsHolder J p v c h r → IsHolder (J ++ e ∷ []) p (recorded n p e v) c h r
-holder-kept n J p e v c h r consumers suits other = holder-step n J p e v c h r consumers suits (not-handed e c other)
+pub holder-kept : (J : List Entry) (p : Place) (e : Entry) (v : VhostState) (c : ℕ) (h : holders.Holder) (r : Holder) → HasConsumers J p v → Suits J e → ((place : Place) (client : Client) (tag queue : List ℕ) (no_ack : Bool) → e ≡ Delivered place client tag queue c no_ack → ⊥) → IsHolder J p v c h r → IsHolder (J ++ e ∷ []) p (recorded p e v) c h r
+holder-kept J p e v c h r consumers suits other = holder-step J p e v c h r consumers suits (not-handed e c other)

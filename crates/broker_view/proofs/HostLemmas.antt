@@ -66,8 +66,8 @@ owed-place J hosts p host views slash is =
     (subst (λ v. HasConfirms J (record { broker = host.broker; vhost = v }) host.confirms) (sym (same_text-true p.vhost (codes "/") slash)) f.holds)
 
 -- what is recorded of a host
-pub recorded-as : (link : ℕ) (e d : Entry) (host : Host) (v : VhostState) → e ≡ d → v ≡ recorded link (place_of host.broker) d host.vhost → record host { vhost = v } ≡ followed_at link e host
-recorded-as link e d host v is k = λ i. record host { vhost = (k ∙ ap (λ x. recorded link (place_of host.broker) x host.vhost) (sym is)) i }
+pub recorded-as : (e d : Entry) (host : Host) (v : VhostState) → e ≡ d → v ≡ recorded (place_of host.broker) d host.vhost → record host { vhost = v } ≡ followed_at e host
+recorded-as e d host v is k = λ i. record host { vhost = (k ∙ ap (λ x. recorded (place_of host.broker) x host.vhost) (sym is)) i }
 
 -- what the confirms that are owed become
 pub told-as : (e d : Entry) (host : Host) (accounts : List Account) → e ≡ d → accounts ≡ told (place_of host.broker) d host.vhost host.confirms → record host { confirms = accounts } ≡ told_at e host

@@ -28,6 +28,7 @@ pub mod Questions
 pub mod QueueRows
 pub mod Reached
 pub mod RecordLemmas
+pub mod Refusals
 pub mod Secured
 pub mod Sites
 pub mod Tables

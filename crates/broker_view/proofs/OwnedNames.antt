@@ -5,11 +5,10 @@ use Rattle.std.specs.Option.{option_map, option_map_or, option_and_then}
 use Rattle.std.proofs.lemmas.List.Elements.{All-nil, All-cons, All-head, All-tail, All-weaker}
 use Rattle.amqp_props.specs.declared.message.Message.{Message}
 use Rattle.route_core.specs.Routes.{routed_names}
-use Rattle.route_core.specs.Walks.{publish}
+use Rattle.route_core.specs.Walks.{publish, headers_of}
 use Rattle.fed_journal.specs.declared.place.Place.{Place}
 use Rattle.fed_journal.specs.declared.entry.Entry.{Entry}
 use Rattle.fed_journal.specs.Configuration.{is_connection_in, is_exclusive_in, queue_options, goes_with, queues_owned}
-use Rattle.fed_journal.specs.Messages.{headers_of}
 use Rattle.fed_journal.specs.Routes.{routes}
 use Rattle.broker_store.specs.Queues.{is_owned, owned_names, Standing, Named}
 use Rattle.mini_broker.specs.Publish.{reached}

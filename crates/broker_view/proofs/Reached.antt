@@ -17,15 +17,14 @@ use Rattle.route_core.specs.declared.object.Sort.TheVariants as sorts
 use Rattle.route_core.specs.Bindings.{has_binding}
 use Rattle.route_core.specs.Objects.{same_sort, sort_of, is_named, has}
 use Rattle.route_core.specs.Routes.{is_reached, is_routed, routed}
-use Rattle.route_core.specs.Routing.{Routing, predeclared, is_default, stands, with_object, without_object, with_binding, without_binding, object_named}
-use Rattle.route_core.specs.Walks.{Publish, publish}
+use Rattle.route_core.specs.Routing.{Routing, predeclared, is_default, stands, with_object, without_object, with_binding, without_binding, object_named, bound, unbound, has_ends}
+use Rattle.route_core.specs.Walks.{Publish, publish, headers_of}
 use Rattle.fed_journal.specs.declared.place.Place.{Place}
 use Rattle.fed_journal.specs.declared.entry.Entry.{Entry}
 use Rattle.fed_journal.specs.declared.entry.Entry.TheVariants.{MadeQueue, MadeExchange, GoneQueue, Bound, Unbound}
 use Rattle.fed_journal.specs.Configuration.{queue_options}
-use Rattle.fed_journal.specs.Messages.{headers_of}
 use Rattle.fed_journal.specs.Names.{same_text}
-use Rattle.fed_journal.specs.Routes.{Site, first_site, site, site_at, site_step, is_at, made, gone, bound, unbound, has_ends, routes}
+use Rattle.fed_journal.specs.Routes.{Site, first_site, site, site_at, site_step, is_at, made, gone, routes}
 use Rattle.broker_store.specs.Queues.{Standing, queue_of}
 use Rattle.mini_broker.specs.State.{VhostState}
 use Rattle.broker_view.specs.View.{IsConfigured, AreDistinct}

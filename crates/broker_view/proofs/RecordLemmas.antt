@@ -25,9 +25,9 @@ ready-at host e r place client tag queue copy no_ack is here =
     first_ready-is r.journal (place_of host.broker) host.vhost queue r.view.copies
     ∙ ap (λ p. first_ready r.journal p queue) (sym (same_place-true place (place_of host.broker) here)) ∙ suits
 
-pub handed-as : (link : ℕ) (e : Entry) (host : Host) (v : VhostState) (place : Place) (client : Client) (tag queue : List ℕ) (copy : ℕ) (no_ack : Bool) → Delivered place client tag queue copy no_ack ≡ e → same_place place (place_of host.broker) ≡ true → v ≡ with_handed client tag queue copy no_ack host.vhost → record host { vhost = v } ≡ followed_at link e host
-handed-as link e host v place client tag queue copy no_ack is here k =
-    recorded-as link e (Delivered place client tag queue copy no_ack) host v (sym is) (k ∙ sym (ap (λ b. cond b (with_handed client tag queue copy no_ack host.vhost) host.vhost) here))
+pub handed-as : (e : Entry) (host : Host) (v : VhostState) (place : Place) (client : Client) (tag queue : List ℕ) (copy : ℕ) (no_ack : Bool) → Delivered place client tag queue copy no_ack ≡ e → same_place place (place_of host.broker) ≡ true → v ≡ with_handed client tag queue copy no_ack host.vhost → record host { vhost = v } ≡ followed_at e host
+handed-as e host v place client tag queue copy no_ack is here k =
+    recorded-as e (Delivered place client tag queue copy no_ack) host v (sym is) (k ∙ sym (ap (λ b. cond b (with_handed client tag queue copy no_ack host.vhost) host.vhost) here))
 
 -- the number of the first copy, where there is one
 pub first-number : (n first : ℕ) (names : List (List ℕ)) → first ≡ first_of n names → (length names ≡ 0 → ⊥) → first ≡ n

@@ -17,11 +17,11 @@ use Rattle.route_core.specs.declared.object.Sort.{Sort}
 use Rattle.route_core.specs.declared.object.Sort.TheVariants as sorts
 use Rattle.route_core.specs.Bindings.{has_binding, is_same, ends_with}
 use Rattle.route_core.specs.Objects.{same_sort, sort_of, is_named, has, number_of, rises}
-use Rattle.route_core.specs.Routing.{Routing, stands, with_object, without_object, with_binding, without_binding, object_named}
+use Rattle.route_core.specs.Routing.{Routing, stands, with_object, without_object, with_binding, without_binding, object_named, bound, unbound, has_ends}
 use Rattle.fed_journal.specs.declared.place.Place.{Place}
 use Rattle.fed_journal.specs.declared.entry.Entry.{Entry}
 use Rattle.fed_journal.specs.declared.entry.Entry.TheVariants.{MadeQueue, MadeExchange, GoneQueue, Bound, Unbound}
-use Rattle.fed_journal.specs.Routes.{Site, first_site, site, site_at, site_step, is_at, made, gone, bound, unbound, has_ends}
+use Rattle.fed_journal.specs.Routes.{Site, first_site, site, site_at, site_step, is_at, made, gone}
 use Rattle.amqp_props.specs.declared.message.Message.{Message}
 use Rattle.broker_store.specs.Exchanges.{NamedShape}
 use Rattle.broker_store.specs.Queues.{Named, queue_of}

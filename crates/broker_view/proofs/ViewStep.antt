@@ -43,16 +43,16 @@ is-routed : (J : List Entry) (p : Place) (e : Entry) (v : VhostState) → IsConf
 is-routed J p (Published x) v h suits = λ here. routed-at J p x v h suits.1 (same_place-true x.place p here)
 is-routed J p e v h suits = tt
 
-is-fresh : (n : ℕ) (J : List Entry) (p : Place) (e : Entry) (v : VhostState) → HasConsumers J p v → IsFresh J p v e (recorded n p e v)
-is-fresh n J p (Delivered place client tag queue copy no_ack) v h = λ here.
-    subst (λ r. IsChannel (J ++ Delivered r client tag queue copy no_ack ∷ []) p (recorded n p (Delivered r client tag queue copy no_ack) v) copy r client tag (holder_as client tag v)) (sym here) (holder-fresh n J p client tag queue copy no_ack v h)
-is-fresh n J p e v h = tt
+is-fresh : (J : List Entry) (p : Place) (e : Entry) (v : VhostState) → HasConsumers J p v → IsFresh J p v e (recorded p e v)
+is-fresh J p (Delivered place client tag queue copy no_ack) v h = λ here.
+    subst (λ r. IsChannel (J ++ Delivered r client tag queue copy no_ack ∷ []) p (recorded p (Delivered r client tag queue copy no_ack) v) copy r client tag (holder_as client tag v)) (sym here) (holder-fresh J p client tag queue copy no_ack v h)
+is-fresh J p e v h = tt
 
 -- the virtual host that an entry's record leaves is that of the longer journal
-pub view-step : (n : ℕ) (J : List Entry) (p : Place) (e : Entry) (v : VhostState) → IsView J p v → Suits J e → IsView (J ++ e ∷ []) p (recorded n p e v)
-view-step n J p e v view suits = record {
-  configured = configured-step n J p e v view.configured suits;
-  consuming = consuming-step n J p e v view.consuming suits;
-  copies = copies-step n J p e v view.copies view.counted.known suits (is-routed J p e v view.configured suits) (λ c h r other is. holder-step n J p e v c h r view.consuming suits other is) (is-fresh n J p e v view.consuming);
-  counted = counted-step n J p e v view.counted suits;
+pub view-step : (J : List Entry) (p : Place) (e : Entry) (v : VhostState) → IsView J p v → Suits J e → IsView (J ++ e ∷ []) p (recorded p e v)
+view-step J p e v view suits = record {
+  configured = configured-step J p e v view.configured suits;
+  consuming = consuming-step J p e v view.consuming suits;
+  copies = copies-step J p e v view.copies view.counted.known suits (is-routed J p e v view.configured suits) (λ c h r other is. holder-step J p e v c h r view.consuming suits other is) (is-fresh J p e v view.consuming);
+  counted = counted-step J p e v view.counted suits;
 }

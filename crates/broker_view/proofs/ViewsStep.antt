@@ -41,38 +41,38 @@ same-brokers : (J : List Entry) (e : Entry) (b : List ℕ) → is_begun e ≡ fa
 same-brokers J e b h =
     sym (any-append (begins b) J (e ∷ []) ∙ ap (λ x. is_broker J b || (x || false)) (other-begins b e h) ∙ sym (or-false (is_broker J b)))
 
-mapped-names : (n : ℕ) (e : Entry) (hosts : List Host) → map (λ (h : Host). h.broker) hosts ≡ map (λ (h : Host). h.broker) (map (recorded_at n e) hosts)
-mapped-names n e [] = refl
-mapped-names n e (h ∷ hosts) = ap (λ ns. h.broker ∷ ns) (mapped-names n e hosts)
+mapped-names : (e : Entry) (hosts : List Host) → map (λ (h : Host). h.broker) hosts ≡ map (λ (h : Host). h.broker) (map (recorded_at e) hosts)
+mapped-names e [] = refl
+mapped-names e (h ∷ hosts) = ap (λ ns. h.broker ∷ ns) (mapped-names e hosts)
 
-mapped-any : (n : ℕ) (e : Entry) (b : List ℕ) (hosts : List Host) → list_any (λ (h : Host). same_text h.broker b) (map (recorded_at n e) hosts) ≡ list_any (λ (h : Host). same_text h.broker b) hosts
-mapped-any n e b [] = refl
-mapped-any n e b (h ∷ hosts) = ap (λ x. same_text h.broker b || x) (mapped-any n e b hosts)
+mapped-any : (e : Entry) (b : List ℕ) (hosts : List Host) → list_any (λ (h : Host). same_text h.broker b) (map (recorded_at e) hosts) ≡ list_any (λ (h : Host). same_text h.broker b) hosts
+mapped-any e b [] = refl
+mapped-any e b (h ∷ hosts) = ap (λ x. same_text h.broker b || x) (mapped-any e b hosts)
 
-mapped-views : (n : ℕ) (J : List Entry) (e : Entry) (hosts : List Host) → Suits J e → All (λ (h : Host). IsView J (place_of h.broker) h.vhost) hosts → All (λ (h : Host). IsView (J ++ e ∷ []) (place_of h.broker) h.vhost) (map (recorded_at n e) hosts)
-mapped-views n J e [] suits all = All-nil (λ (h : Host). IsView (J ++ e ∷ []) (place_of h.broker) h.vhost)
-mapped-views n J e (h ∷ hosts) suits all =
-    All-cons (λ (x : Host). IsView (J ++ e ∷ []) (place_of x.broker) x.vhost) (recorded_at n e h) (map (recorded_at n e) hosts)
-    (view-step n J (place_of h.broker) e h.vhost (All-head (λ (x : Host). IsView J (place_of x.broker) x.vhost) h hosts all) suits)
-    (mapped-views n J e hosts suits (All-tail (λ (x : Host). IsView J (place_of x.broker) x.vhost) h hosts all))
+mapped-views : (J : List Entry) (e : Entry) (hosts : List Host) → Suits J e → All (λ (h : Host). IsView J (place_of h.broker) h.vhost) hosts → All (λ (h : Host). IsView (J ++ e ∷ []) (place_of h.broker) h.vhost) (map (recorded_at e) hosts)
+mapped-views J e [] suits all = All-nil (λ (h : Host). IsView (J ++ e ∷ []) (place_of h.broker) h.vhost)
+mapped-views J e (h ∷ hosts) suits all =
+    All-cons (λ (x : Host). IsView (J ++ e ∷ []) (place_of x.broker) x.vhost) (recorded_at e h) (map (recorded_at e) hosts)
+    (view-step J (place_of h.broker) e h.vhost (All-head (λ (x : Host). IsView J (place_of x.broker) x.vhost) h hosts all) suits)
+    (mapped-views J e hosts suits (All-tail (λ (x : Host). IsView J (place_of x.broker) x.vhost) h hosts all))
 
 -- what is owed at a host
 abbrev Owes : List Entry → Host → Type 0
 Owes J h = HasConfirms J (place_of h.broker) h.confirms
 
-mapped-owed : (n : ℕ) (J : List Entry) (e : Entry) (hosts : List Host) → Suits J e → HasPublications J → All (λ (h : Host). IsView J (place_of h.broker) h.vhost) hosts → All (Owes J) hosts → All (Owes (J ++ e ∷ [])) (map (recorded_at n e) hosts)
-mapped-owed n J e [] suits pubs all owes = All-nil (Owes (J ++ e ∷ []))
-mapped-owed n J e (h ∷ hosts) suits pubs all owes =
-    All-cons (Owes (J ++ e ∷ [])) (recorded_at n e h) (map (recorded_at n e) hosts)
+mapped-owed : (J : List Entry) (e : Entry) (hosts : List Host) → Suits J e → HasPublications J → All (λ (h : Host). IsView J (place_of h.broker) h.vhost) hosts → All (Owes J) hosts → All (Owes (J ++ e ∷ [])) (map (recorded_at e) hosts)
+mapped-owed J e [] suits pubs all owes = All-nil (Owes (J ++ e ∷ []))
+mapped-owed J e (h ∷ hosts) suits pubs all owes =
+    All-cons (Owes (J ++ e ∷ [])) (recorded_at e h) (map (recorded_at e) hosts)
     (owed-step J (place_of h.broker) e h.vhost h.confirms (All-head (λ (x : Host). IsView J (place_of x.broker) x.vhost) h hosts all) pubs (All-head (Owes J) h hosts owes) suits)
-    (mapped-owed n J e hosts suits pubs (All-tail (λ (x : Host). IsView J (place_of x.broker) x.vhost) h hosts all) (All-tail (Owes J) h hosts owes))
+    (mapped-owed J e hosts suits pubs (All-tail (λ (x : Host). IsView J (place_of x.broker) x.vhost) h hosts all) (All-tail (Owes J) h hosts owes))
 
-pub views-step : (n : ℕ) (J : List Entry) (e : Entry) (hosts : List Host) → is_begun e ≡ false → AreViews J hosts → Suits J e → AreViews (J ++ e ∷ []) (map (recorded_at n e) hosts)
-views-step n J e hosts other views suits = record {
-  brokers = λ b. mapped-any n e b hosts ∙ views.brokers b ∙ same-brokers J e b other;
-  distinct = subst AreDistinct (mapped-names n e hosts) views.distinct;
-  views = mapped-views n J e hosts suits views.views;
-  confirms = mapped-owed n J e hosts suits views.published views.views views.confirms;
+pub views-step : (J : List Entry) (e : Entry) (hosts : List Host) → is_begun e ≡ false → AreViews J hosts → Suits J e → AreViews (J ++ e ∷ []) (map (recorded_at e) hosts)
+views-step J e hosts other views suits = record {
+  brokers = λ b. mapped-any e b hosts ∙ views.brokers b ∙ same-brokers J e b other;
+  distinct = subst AreDistinct (mapped-names e hosts) views.distinct;
+  views = mapped-views J e hosts suits views.views;
+  confirms = mapped-owed J e hosts suits views.published views.views views.confirms;
   published = publications-step J e views.published views.fresh suits;
   fresh = fresh-step J e views.fresh suits;
 }
@@ -83,7 +83,7 @@ views-step n J e hosts other views suits = record {
 begun-views : (J : List Entry) (b cluster kept : List ℕ) (hosts : List Host) → Suits J (Begun b cluster kept) → All (λ (h : Host). IsView J (place_of h.broker) h.vhost) hosts → All (λ (h : Host). IsView (J ++ Begun b cluster kept ∷ []) (place_of h.broker) h.vhost) hosts
 begun-views J b cluster kept hosts suits all =
     All-weaker (λ (h : Host). IsView J (place_of h.broker) h.vhost) (λ (h : Host). IsView (J ++ Begun b cluster kept ∷ []) (place_of h.broker) h.vhost)
-    (λ h view. view-step 0 J (place_of h.broker) (Begun b cluster kept) h.vhost view suits) hosts all
+    (λ h view. view-step J (place_of h.broker) (Begun b cluster kept) h.vhost view suits) hosts all
 
 begun-owed : (J : List Entry) (b cluster kept : List ℕ) (hosts : List Host) → Suits J (Begun b cluster kept) → HasPublications J → All (λ (h : Host). IsView J (place_of h.broker) h.vhost) hosts → All (Owes J) hosts → All (Owes (J ++ Begun b cluster kept ∷ [])) hosts
 begun-owed J b cluster kept [] suits pubs all owes = All-nil (Owes (J ++ Begun b cluster kept ∷ []))
@@ -144,7 +144,7 @@ new-views J b cluster kept hosts none views suits = record {
   brokers = λ n. any-append (λ (h : Host). same_text h.broker n) hosts (record { broker = b; vhost = bare; confirms = [] } ∷ []) ∙ ap (λ x. list_any (λ (h : Host). same_text h.broker n) hosts || x) (sym (or-false (same_text b n))) ∙ ap (λ x. x || same_text b n) (views.brokers n) ∙ sym (begun-broker J b cluster kept n);
   distinct = subst AreDistinct (pushed-names b hosts) (distinct-push (map (λ (h : Host). h.broker) hosts) b (names-any b hosts ∙ none) views.distinct);
   views = All-push (λ (h : Host). IsView (J ++ Begun b cluster kept ∷ []) (place_of h.broker) h.vhost) hosts (record { broker = b; vhost = bare; confirms = [] }) (begun-views J b cluster kept hosts suits views.views)
-      (view-step 0 J (place_of b) (Begun b cluster kept) bare (bare-view J (place_of b) suits) suits);
+      (view-step J (place_of b) (Begun b cluster kept) bare (bare-view J (place_of b) suits) suits);
   confirms = All-push (Owes (J ++ Begun b cluster kept ∷ [])) hosts (record { broker = b; vhost = bare; confirms = [] }) (begun-owed J b cluster kept hosts suits views.published views.views views.confirms)
       (owed-step J (place_of b) (Begun b cluster kept) bare [] (bare-view J (place_of b) suits) views.published (none-owed J (place_of b) (none-published J suits)) suits);
   published = publications-step J (Begun b cluster kept) views.published views.fresh suits;
@@ -158,8 +158,8 @@ begun-by J b cluster kept hosts false none views suits = new-views J b cluster k
 pub begun-step : (b cluster kept : List ℕ) (hosts : List Host) → LeadsOn hosts (Begun b cluster kept) (with_host b hosts)
 begun-step b cluster kept hosts = λ J views suits. begun-by J b cluster kept hosts (list_any (λ (h : Host). same_text h.broker b) hosts) refl views suits
 
-pub recorded-step : (n : ℕ) (e : Entry) (hosts now : List Host) → is_begun e ≡ false → now ≡ map (recorded_at n e) hosts → LeadsOn hosts e now
-recorded-step n e hosts now other is = λ J views suits. subst (AreViews (J ++ e ∷ [])) (sym is) (views-step n J e hosts other views suits)
+pub recorded-step : (e : Entry) (hosts now : List Host) → is_begun e ≡ false → now ≡ map (recorded_at e) hosts → LeadsOn hosts e now
+recorded-step e hosts now other is = λ J views suits. subst (AreViews (J ++ e ∷ [])) (sym is) (views-step J e hosts other views suits)
 
 pub all-recordable : (hosts : List Host) (e : Entry) → IsNext hosts e → All (λ (h : Host). IsRecordable h e) hosts
 all-recordable hosts e next =

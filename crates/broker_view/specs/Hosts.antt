@@ -23,17 +23,17 @@ abbrev pub place_of : List ℕ → Place
 place_of broker = record { broker = broker; vhost = codes "/" }
 
 -- what happened there, and what it changed in the confirms that are owed
-abbrev pub recorded_at : ℕ → Entry → Host → Host
-recorded_at link e host = record host {
-  vhost = recorded link (place_of host.broker) e host.vhost;
+abbrev pub recorded_at : Entry → Host → Host
+recorded_at e host = record host {
+  vhost = recorded (place_of host.broker) e host.vhost;
   confirms = told (place_of host.broker) e host.vhost host.confirms;
 }
 
 -- the virtual host follows the entry
-abbrev pub followed_at : ℕ → Entry → Host → Host
-followed_at link e host = record host { vhost = recorded link (place_of host.broker) e host.vhost }
+abbrev pub followed_at : Entry → Host → Host
+followed_at e host = record host { vhost = recorded (place_of host.broker) e host.vhost }
 
--- the confirms do
+-- the confirms that the host owes follow the entry
 abbrev pub told_at : Entry → Host → Host
 told_at e host = record host { confirms = told (place_of host.broker) e host.vhost host.confirms }
 

@@ -21,6 +21,7 @@ use Rattle.broker_store.specs.declared.consumer.Consumer.{Consumer}
 use Rattle.broker_store.specs.Consumers.{is_client, is_consumer}
 use Rattle.broker_store.specs.Queues.{Named, queue_of, AreAbove}
 use Rattle.broker_store.specs.Exchanges.{shape_of}
+use Rattle.broker_view.specs.Recorded.{session_holder}
 use Rattle.mini_broker.specs.Consume.{consumer_of}
 use Rattle.mini_broker.specs.State.{VhostState, AreRouted}
 
@@ -51,7 +52,7 @@ abbrev pub AreSingle : List Consumer → Type 0
 AreSingle [] = Unit {0}
 AreSingle (consumer ∷ consumers) = (list_any (is_consumer consumer.client consumer.tag) consumers ≡ false) × AreSingle consumers
 
--- consumers are numbered in the order in which they began
+-- the numbers of consumers rise, in the order in which they began
 abbrev pub Rise : List Consumer → Type 0
 Rise [] = Unit {0}
 Rise (consumer ∷ consumers) = All (λ later. consumer.holder.part < later.holder.part) consumers × Rise consumers
@@ -103,7 +104,7 @@ pub record IsChannel (J : List Entry) (p : Place) (v : VhostState) (c : ℕ) (pl
   pub counts : CountsFor J p v.consumers client tag c holder.part
 
 abbrev pub IsHolder : List Entry → Place → VhostState → ℕ → holders.Holder → Holder → Type 0
-IsHolder J p v c (holders.Session link session) holder = holder.link ≡ true
+IsHolder J p v c (holders.Session link session) holder = holder ≡ session_holder session
 IsHolder J p v c (holders.Channel place client tag) holder = IsChannel J p v c place client tag holder
 
 -- a copy is held as the journal has it (RabbitMQ, Consumer Acknowledgements)

@@ -34,13 +34,13 @@ pub fn is_at(host: &Host, place: &Place) -> bool
     place.broker == host.broker && place.vhost.as_str() == "/"
 }
 
-/// A session of a link as a holder of copies, by the link's number.
-fn session_holder(link: u32, session: u32) -> Holder
-    ensures { result ≡ session_holder link session }
+/// A session of a link as a holder of copies; which link it is the journal tells by the copy.
+fn session_holder(session: u32) -> Holder
+    ensures { result ≡ session_holder session }
 {
     Holder {
         link: true,
-        number: link,
+        number: 0,
         part: session,
     }
 }
@@ -50,9 +50,9 @@ fn session_holder(link: u32, session: u32) -> Holder
 /// # Errors
 ///
 /// For want of memory.
-fn record_made(host: &mut Host, link: u32, entry: &Entry) -> Result<(), AllocError>
+fn record_made(host: &mut Host, entry: &Entry) -> Result<(), AllocError>
     requires { IsRecordable host.old entry.now }
-    ensures { IsTrue (is_making entry.now) → OnOk result (host.new ≡ followed_at link entry.now host.old) }
+    ensures { IsTrue (is_making entry.now) → OnOk result (host.new ≡ followed_at entry.now host.old) }
 {
     match entry {
         Entry::MadeQueue {
@@ -108,10 +108,10 @@ fn enter(host: &mut Host, publication: &Publication) -> Result<(), AllocError>
 /// # Errors
 ///
 /// For want of memory.
-fn record_moved(host: &mut Host, link: u32, entry: &Entry) -> Result<(), AllocError>
+fn record_moved(host: &mut Host, entry: &Entry) -> Result<(), AllocError>
     requires recordable { IsRecordable host.old entry.now }
     requires fits { IsFitting entry.now }
-    ensures { IsTrue (is_moving entry.now) → OnOk result (host.new ≡ followed_at link entry.now host.old) }
+    ensures { IsTrue (is_moving entry.now) → OnOk result (host.new ≡ followed_at entry.now host.old) }
 {
     match entry {
         Entry::Published(publication) if is_at(host, &publication.place) => {
@@ -119,7 +119,7 @@ fn record_moved(host: &mut Host, link: u32, entry: &Entry) -> Result<(), AllocEr
         }
         Entry::Flushed { broker } if host.broker == *broker => host.vhost.flush(),
         Entry::Took { session, copy, .. } => {
-            host.vhost.take(*copy, session_holder(link, *session));
+            host.vhost.take(*copy, session_holder(*session));
         }
         Entry::Settled { copy, .. } | Entry::Acked { copy, .. } | Entry::Rejected { copy, .. } => {
             host.vhost.settle(*copy);
@@ -138,9 +138,9 @@ fn record_moved(host: &mut Host, link: u32, entry: &Entry) -> Result<(), AllocEr
 /// # Errors
 ///
 /// For want of memory.
-fn record_consumed(host: &mut Host, link: u32, entry: &Entry) -> Result<(), AllocError>
+fn record_consumed(host: &mut Host, entry: &Entry) -> Result<(), AllocError>
     requires { IsRecordable host.old entry.now }
-    ensures { IsTrue (is_consuming entry.now) → OnOk result (host.new ≡ followed_at link entry.now host.old) }
+    ensures { IsTrue (is_consuming entry.now) → OnOk result (host.new ≡ followed_at entry.now host.old) }
 {
     match entry {
         Entry::Consumed {
@@ -181,22 +181,22 @@ fn record_consumed(host: &mut Host, link: u32, entry: &Entry) -> Result<(), Allo
 /// # Errors
 ///
 /// For want of memory.
-fn follow(host: &mut Host, link: u32, entry: &Entry) -> Result<(), AllocError>
+fn follow(host: &mut Host, entry: &Entry) -> Result<(), AllocError>
     requires recordable { IsRecordable host.old entry.now }
     requires fits { IsFitting entry.now }
-    ensures { OnOk result (host.new ≡ followed_at link entry.now host.old) }
+    ensures { OnOk result (host.new ≡ followed_at entry.now host.old) }
 {
     match entry {
         Entry::Consumed { .. }
         | Entry::Cancelled { .. }
         | Entry::Delivered { .. }
-        | Entry::Closed { .. } => record_consumed(host, link, entry)?,
+        | Entry::Closed { .. } => record_consumed(host, entry)?,
         Entry::MadeQueue { .. }
         | Entry::MadeExchange { .. }
         | Entry::GoneQueue { .. }
         | Entry::Bound { .. }
-        | Entry::Unbound { .. } => record_made(host, link, entry)?,
-        _ => record_moved(host, link, entry)?,
+        | Entry::Unbound { .. } => record_made(host, entry)?,
+        _ => record_moved(host, entry)?,
     }
     Ok(())
 }
@@ -207,13 +207,13 @@ fn follow(host: &mut Host, link: u32, entry: &Entry) -> Result<(), AllocError>
 /// # Errors
 ///
 /// For want of memory.
-pub fn record(alloc: Global, host: &mut Host, link: u32, entry: &Entry) -> Result<(), AllocError>
+pub fn record(alloc: Global, host: &mut Host, entry: &Entry) -> Result<(), AllocError>
     requires recordable { IsRecordable host.old entry.now }
     requires tellable { IsTellable host.old entry.now }
     requires fits { IsFitting entry.now }
-    ensures { OnOk result (host.new ≡ recorded_at link entry.now host.old) }
+    ensures { OnOk result (host.new ≡ recorded_at entry.now host.old) }
 {
     tell(alloc, host, entry)?;
-    follow(host, link, entry)?;
+    follow(host, entry)?;
     Ok(())
 }

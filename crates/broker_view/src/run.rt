@@ -2,7 +2,7 @@
 
 ghost use Rattle.std.specs.Prelude.{◌≡◌, ◌==◌, ◌≤◌, true, not, is_some, find, length, codes, IfOk, IfSome};
 ghost use Rattle.std.specs.Option.{option_copied, option_map};
-ghost use Rattle.fed_journal.specs.declared.journal.TheConstants.{MAX_ENTRIES};
+ghost use Rattle.fed_journal.specs.Limits.{most_entries};
 ghost use Rattle.fed_journal.specs.Names.{same_text};
 ghost use Rattle.fed_journal.specs.Configuration.{is_broker as is_broker_of, is_place as is_place_of, queue_options as options_of, queue_owner as owner_of, is_locked as is_queue_locked, is_exclusive as is_queue_exclusive, queues_owned as owned_queues, exchange_shape as shape_of_exchange};
 ghost use Rattle.fed_journal.specs.Routes.{is_bound as is_binding_bound, routes as routes_of};
@@ -116,7 +116,7 @@ impl<'a> Run<'a> {
     }
 
     /// The virtual host of the place; None exactly where the place isn't one of the run.
-    fn vhost(&self, place: &Place) -> Option<&'a Vhost>
+    pub(crate) fn vhost(&self, place: &Place) -> Option<&'a Vhost>
         ensures known { is_some result ≡ is_place_of self.now place.now }
         ensures view { IfSome result (λ vhost. IsView self.now place.now vhost.now) }
     {
@@ -238,7 +238,7 @@ impl<'a> Run<'a> {
         message: &Message,
     ) -> Result<Names, AllocError>
         requires place { is_place_of self.now place.now ≡ true }
-        requires within { length self.now ≤ MAX_ENTRIES }
+        requires within { length self.now ≤ most_entries }
         ensures { IfOk result (λ names. names ≡ routes_of self.now place.now message.now) }
     {
         let names = self.reached(alloc, place, message)?;

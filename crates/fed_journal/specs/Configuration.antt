@@ -1,12 +1,10 @@
 -- What stands at the brokers after a journal.
 use Rattle.std.specs.Prelude.{ℕ, List, [], ◌∷◌, ◌++◌, Bool, true, false, ◌&&◌, not, ◌==◌, fold, filter, Option, Some, None, if◌then◌else◌, codes}
 use Rattle.std.specs.List.{list_any}
-use Rattle.std.specs.Option.{option_map}
 use Rattle.fed_journal.specs.declared.place.Place.{Place}
 use Rattle.client_rules.specs.declared.client.ExchangeShape.{ExchangeShape}
 use Rattle.amqp_props.specs.declared.link.QueueOptions.{QueueOptions}
-use Rattle.amqp_props.specs.declared.link.ExchangeKind.{ExchangeKind}
-use Rattle.amqp_props.specs.declared.link.ExchangeKind.TheVariants.{Direct, Fanout, Headers, Topic}
+use Rattle.route_core.specs.Predeclared.{predeclared_shape}
 use Rattle.fed_journal.specs.declared.entry.Entry.{Entry}
 use Rattle.fed_journal.specs.declared.entry.Entry.TheVariants.{Begun, MadeQueue, MadeExchange, GoneQueue}
 use Rattle.fed_journal.specs.Names.{same_text, same_place}
@@ -81,19 +79,6 @@ goes_with J p n q = is_exclusive J p q && is_connection_in n (queue_owner J p q)
 -- those that the connection has to itself, in the order of their making
 unfoldable pub queues_owned : List Entry → Place → ℕ → List (List ℕ)
 queues_owned J p n = filter (goes_with J p n) (queues_of J p)
-
--- the types of the exchanges with which a virtual host begins (AMQP 0-9-1, 3.1.3: amq.direct and the others that the server pre-declares)
-abbrev pub predeclared_kind : List ℕ → Option ExchangeKind
-predeclared_kind x =
-    if same_text x (codes "amq.direct") then Some Direct else
-    if same_text x (codes "amq.fanout") then Some Fanout else
-    if same_text x (codes "amq.headers") then Some Headers else
-    if same_text x (codes "amq.match") then Some Headers else
-    if same_text x (codes "amq.topic") then Some Topic else None
-
--- they are durable, and clients can publish to them
-abbrev pub predeclared_shape : List ℕ → Option ExchangeShape
-predeclared_shape x = option_map (λ kind. record { kind = kind; durable = true; internal = false }) (predeclared_kind x)
 
 -- an exchange stands from its declaration on (AMQP 0-9-1, exchange.declare)
 abbrev pub shape_step : Place → List ℕ → Option ExchangeShape → Entry → Option ExchangeShape

@@ -147,7 +147,7 @@ moved c x t _ = t
 abbrev pub standing_step : ℕ → Publication → Standing → Entry → Standing
 standing_step c x t e = if is_left t then Left else moved c x t e
 
--- a copy is ready in its queue once it is published (AMQP 0-9-1, 3.1.3), and then every entry does with it as above
+-- the standing of a copy, whether it is ready, held or has left: it is ready in its queue once it is published (AMQP 0-9-1, 3.1.3), and then every entry does with it as above
 unfoldable pub standing : ℕ → List Entry → Standing
 standing c [] = Unknown
 standing c (Published x ∷ J) = if is_copy_of x c then fold (standing_step c x) Ready J else standing c J

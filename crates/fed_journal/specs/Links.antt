@@ -4,7 +4,7 @@ use Rattle.std.specs.List.{list_any}
 use Rattle.fed_journal.specs.declared.place.Place.{Place}
 use Rattle.fed_journal.specs.declared.event.Shovel.{Shovel}
 use Rattle.fed_journal.specs.declared.link.LinkSpec.{LinkSpec}
-use Rattle.fed_journal.specs.declared.link.TheConstants.{DEFAULT_PREFETCH}
+use Rattle.fed_journal.specs.Limits.{default_prefetch}
 use Rattle.fed_journal.specs.declared.link.StartState.{StartState}
 use Rattle.fed_journal.specs.declared.link.StartState.TheVariants.{Start, NoBroker, NameTooLong}
 use Rattle.fed_journal.specs.declared.entry.Entry.{Entry}
@@ -39,7 +39,7 @@ spec_of J owner name shovel =
       source_queue = shovel.source_queue;
       target_queue = shovel.target_queue;
       mode = shovel.mode;
-      prefetch = DEFAULT_PREFETCH;
+      prefetch = default_prefetch;
     }
 
 abbrev pub links_set_by : List Entry → List ℕ → Entry → List LinkSpec

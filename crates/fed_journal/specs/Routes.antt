@@ -1,5 +1,5 @@
 -- The exchanges, queues and bindings of a place, and the queues that a message reaches there.
-use Rattle.std.specs.Prelude.{ℕ, ◌+◌, List, [], Bool, false, ◌&&◌, not, fold, if◌then◌else◌}
+use Rattle.std.specs.Prelude.{ℕ, ◌+◌, List, [], Bool, false, fold, if◌then◌else◌}
 use Rattle.route_core.specs.declared.object.Sort.{Sort}
 use Rattle.route_core.specs.declared.object.Sort.TheVariants as sorts
 use Rattle.route_core.specs.declared.object.Node.{Node}
@@ -7,15 +7,14 @@ use Rattle.route_core.specs.declared.object.Node.TheVariants as nodes
 use Rattle.route_core.specs.declared.binding.Binding.{Binding}
 use Rattle.route_core.specs.Objects.{sort_of, has}
 use Rattle.route_core.specs.Bindings.{has_binding}
-use Rattle.route_core.specs.Routing.{Routing, predeclared, stands, with_object, without_object, with_binding, without_binding}
+use Rattle.route_core.specs.Routing.{Routing, predeclared, stands, with_object, without_object, bound, unbound}
 use Rattle.route_core.specs.Routes.{routed_names}
-use Rattle.route_core.specs.Walks.{publish}
+use Rattle.route_core.specs.Walks.{publish, headers_of}
 use Rattle.amqp_props.specs.declared.message.Message.{Message}
 use Rattle.fed_journal.specs.declared.place.Place.{Place}
 use Rattle.fed_journal.specs.declared.entry.Entry.{Entry}
 use Rattle.fed_journal.specs.declared.entry.Entry.TheVariants.{MadeQueue, MadeExchange, GoneQueue, Bound, Unbound}
 use Rattle.fed_journal.specs.Names.{same_place}
-use Rattle.fed_journal.specs.Messages.{headers_of}
 
 -- what stands at a place, and how many queues were made there, which numbers them in the order of their making
 pub record Site : Type 0 where
@@ -29,17 +28,6 @@ first_site = record { routing = record { objects = predeclared; bindings = [] };
 -- what stands already isn't made again (AMQP 0-9-1, queue.declare, exchange.declare)
 abbrev pub made : List ℕ → Node → Routing → Routing
 made name node r = if stands (sort_of node) name r then r else with_object name node r
-
--- both ends of a binding stand (AMQP 0-9-1, queue.bind)
-abbrev pub has_ends : Binding → Routing → Bool
-has_ends b r = has sorts.Exchange b.source r.objects && has b.sort b.dest r.objects
-
--- an equal binding isn't made again (AMQP 0-9-1, queue.bind: a duplicate is ignored)
-abbrev pub bound : Binding → Routing → Routing
-bound b r = if has_ends b r && not (has_binding b r.bindings) then with_binding b r else r
-
-abbrev pub unbound : Binding → Routing → Routing
-unbound b r = if has_binding b r.bindings then without_binding b r else r
 
 abbrev pub site_of : Routing → ℕ → Site
 site_of routing queues = record { routing = routing; queues = queues }
@@ -68,7 +56,7 @@ is_at p _ = false
 abbrev pub site_step : Place → Site → Entry → Site
 site_step p s e = if is_at p e then site_at s e else s
 
--- the place after a journal
+-- the site of a place: what stands there after a journal, and how many queues were made there
 unfoldable pub site : List Entry → Place → Site
 site J p = fold (site_step p) first_site J
 

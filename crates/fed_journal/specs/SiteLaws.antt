@@ -13,16 +13,15 @@ use Rattle.route_core.specs.Objects.{sort_of, is_named, has, number_of, rises}
 use Rattle.route_core.specs.declared.object.Sort.TheVariants as sorts
 use Rattle.field_tables.specs.Tables.{IsTable}
 use Rattle.route_core.specs.Bindings.{has_binding, is_same, ends_with}
-use Rattle.route_core.specs.Routing.{Routing, stands, IsNext, with_object, without_object, with_binding, without_binding, object_named, predeclared}
+use Rattle.route_core.specs.Routing.{Routing, stands, IsNext, with_object, without_object, with_binding, without_binding, object_named, predeclared, bound, unbound, has_ends}
 use Rattle.fed_journal.specs.declared.place.Place.{Place}
 use Rattle.fed_journal.specs.declared.entry.Entry.{Entry}
 use Rattle.fed_journal.specs.declared.entry.Entry.TheVariants.{MadeQueue, MadeExchange, GoneQueue, Bound, Unbound}
 use Rattle.amqp_props.specs.declared.message.Message.{Message}
 use Rattle.route_core.specs.Routes.{routed, is_routed}
-use Rattle.route_core.specs.Walks.{Publish, publish}
+use Rattle.route_core.specs.Walks.{Publish, publish, headers_of}
 use Rattle.fed_journal.specs.Copies.{IsFitting}
-use Rattle.fed_journal.specs.Messages.{headers_of}
-use Rattle.fed_journal.specs.Routes.{Site, routes, first_site, site_of, site, site_at, site_step, is_at, made, gone, bound, unbound, has_ends}
+use Rattle.fed_journal.specs.Routes.{Site, routes, first_site, site_of, site, site_at, site_step, is_at, made, gone}
 
 -- the next queue's number is above those of all queues
 abbrev pub IsNumbering : Site → Type 0

@@ -4,7 +4,7 @@ use Rattle.amqp_props.specs.ContentHeader.{AreShort, header_spelling}
 use Rattle.amqp_props.specs.declared.message.Message.{Message}
 use Rattle.fed_journal.specs.declared.entry.Entry.{Entry}
 use Rattle.fed_journal.specs.declared.entry.Entry.TheVariants.{Published}
-use Rattle.fed_journal.specs.declared.message.TheConstants.{MAX_BODY}
+use Rattle.fed_journal.specs.Limits.{most_body}
 
 -- those of its body and those of its content header (AMQP 0-9-1, 4.2.6.1 "The Content Header")
 abbrev pub message_bytes : Message → ℕ
@@ -13,7 +13,7 @@ message_bytes m = length m.body + length (header_spelling (length m.body) m.prop
 -- the body is no longer than one may be, and the properties have a spelling (AMQP 0-9-1, 4.2.6.1)
 pub record IsMessage (m : Message) : Type 0 where
   pub short : AreShort m.props
-  pub body : length m.body ≤ MAX_BODY
+  pub body : length m.body ≤ most_body
 
 abbrev pub entry_bytes : Entry → ℕ
 entry_bytes (Published x) = message_bytes x.message

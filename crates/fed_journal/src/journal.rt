@@ -1,5 +1,6 @@
 //! The list of entries, with the numbers that the next publication and its copies get.
 ghost use Rattle.std.specs.Prelude.{◌≡◌, ◌+◌, ◌-◌, ◌*◌, ◌<◌, ◌≤◌, ◌^◌, [], ◌∷◌, ◌++◌, length, Ok, Err, IfOk, OnOk, OnErr, min, vec_capacity, vec_len};
+ghost use Rattle.fed_journal.specs.Limits.{most_entries, most_bytes};
 ghost use Rattle.fed_journal.specs.Copies.{publication_count, copy_count};
 ghost use Rattle.fed_journal.specs.Sizes.{byte_count, entry_bytes as bytes_of_entry, IsSized};
 
@@ -75,10 +76,10 @@ impl Journal {
     /// The entries, oldest first.
     pub fn entries(&self) -> &[Entry]
         ensures same { result.now ≡ self.now.entries }
-        ensures within { length result.now ≤ MAX_ENTRIES }
+        ensures within { length result.now ≤ most_entries }
         ensures copies { copy_count result.now ≤ 2 ^ 32 * length result.now }
         ensures publications { publication_count result.now ≤ length result.now }
-        ensures bytes { byte_count result.now ≤ MAX_BYTES }
+        ensures bytes { byte_count result.now ≤ most_bytes }
     {
         self.items.as_slice()
     }
@@ -99,13 +100,13 @@ impl Journal {
     pub fn reserve(&mut self, entries: usize, bytes: usize) -> Result<(), JournalFault>
         ensures same { self.new.entries ≡ self.old.entries }
         ensures room { OnOk result (entries ≤ self.new.room) }
-        ensures full { result ≡ Err JournalFault.Entries → MAX_ENTRIES < length self.old.entries + entries }
+        ensures full { result ≡ Err JournalFault.Entries → most_entries < length self.old.entries + entries }
         ensures kept { self.old.room ≤ self.new.room }
-        ensures within { OnOk result (length self.old.entries + entries ≤ MAX_ENTRIES) }
-        ensures memory { result ≡ Err JournalFault.Memory → (length self.old.entries + entries ≤ MAX_ENTRIES) × (byte_count self.old.entries + bytes ≤ MAX_BYTES) }
-        ensures over { result ≡ Err JournalFault.Bytes → MAX_BYTES < byte_count self.old.entries + bytes }
-        ensures first { result ≡ Err JournalFault.Bytes → length self.old.entries + entries ≤ MAX_ENTRIES }
-        ensures under { OnOk result (byte_count self.old.entries + bytes ≤ MAX_BYTES) }
+        ensures within { OnOk result (length self.old.entries + entries ≤ most_entries) }
+        ensures memory { result ≡ Err JournalFault.Memory → (length self.old.entries + entries ≤ most_entries) × (byte_count self.old.entries + bytes ≤ most_bytes) }
+        ensures over { result ≡ Err JournalFault.Bytes → most_bytes < byte_count self.old.entries + bytes }
+        ensures first { result ≡ Err JournalFault.Bytes → length self.old.entries + entries ≤ most_entries }
+        ensures under { OnOk result (byte_count self.old.entries + bytes ≤ most_bytes) }
     {
         if entries > MAX_ENTRIES - self.items.len() {
             return Err(JournalFault::Entries);
@@ -124,7 +125,7 @@ impl Journal {
     pub fn push(&mut self, entry: Entry)
         requires room { 0 < self.old.room }
         requires sized { IsSized entry }
-        requires bytes { byte_count self.old.entries + bytes_of_entry entry ≤ MAX_BYTES }
+        requires bytes { byte_count self.old.entries + bytes_of_entry entry ≤ most_bytes }
         ensures appended { self.new.entries ≡ self.old.entries ++ entry ∷ [] }
         ensures room { self.old.room ≤ self.new.room + 1 }
     {

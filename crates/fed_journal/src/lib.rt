@@ -9,4 +9,5 @@ pub mod link;
 pub mod message;
 pub mod page;
 pub mod place;
+pub mod reason;
 pub mod text;

@@ -1,6 +1,5 @@
 //! Names, which contracts see as the lists of their octets.
-ghost use Rattle.std.specs.Prelude.{◌≡◌, ◌<◌, ◌^◌, List, ℕ, length, nat_eq, codes};
-ghost use Rattle.std.specs.List.{starts_with};
+ghost use Rattle.std.specs.Prelude.{◌≡◌, ◌<◌, ◌^◌, length};
 
 use amqp_props::Text;
 use std::marker::Model;
@@ -44,11 +43,4 @@ impl Names {
     {
         self.inner.len() as u64
     }
-}
-
-/// Whether the name begins with these octets.
-pub fn begins_with(name: &Text, prefix: &[u8]) -> bool
-    ensures { result ≡ starts_with nat_eq name.now prefix.now }
-{
-    name.as_str().as_bytes().starts_with(prefix)
 }

@@ -9,7 +9,7 @@ use Rattle.fed_journal.specs.declared.event.Event.{Event}
 use Rattle.fed_journal.specs.declared.event.Event.TheVariants as event
 use Rattle.fed_journal.specs.Events.{IsWritable}
 use Rattle.fed_journal.specs.Sizes.{IsMessage}
-use Rattle.fed_journal.specs.declared.message.TheConstants.{MAX_BODY}
+use Rattle.fed_journal.specs.Limits.{most_body}
 use Rattle.fed_journal.specs.Names.{same_text}
 use Rattle.fed_schedule.specs.declared.keyword.Keyword.{Keyword}
 use Rattle.fed_schedule.specs.declared.keyword.Keyword.TheVariants as form
@@ -51,7 +51,7 @@ binding-table ws named few = arguments_spelled [] (drop 7 ws) (binding_names ws 
 
 -- ---- messages
 
-body-short : (ws : List (List ℕ)) → has_bad_message ws ≡ false → length (octets_of (word_at ws 5)) ≤ MAX_BODY
+body-short : (ws : List (List ℕ)) → has_bad_message ws ≡ false → length (octets_of (word_at ws 5)) ≤ most_body
 unfolding has_bad_message is_bad_body
 body-short ws valued =
     let values = or_parts (is_bad_body (word_at ws 5) || list_any (is_bad_argument_value header_front) (header_words (drop 6 ws))) _ valued in

@@ -3,7 +3,7 @@ ghost use Rattle.std.specs.Prelude.{◌≡◌, ◌++◌, ◌≤◌, All, OnOk, f
 ghost use Rattle.field_tables.specs.Tables.{IsTable};
 ghost use Rattle.field_tables.specs.View.{table_view};
 ghost use Rattle.fed_journal.specs.Copies.{IsFitting};
-ghost use Rattle.fed_journal.specs.declared.journal.TheConstants.{MAX_ENTRIES};
+ghost use Rattle.fed_journal.specs.Limits.{most_entries};
 ghost use Rattle.fed_status.specs.Bindings.{sort_word, octets_word, arguments_word, binding_line, binding_lines};
 
 use fed_journal::entry::Entry;
@@ -98,7 +98,7 @@ pub fn push_binding_lines(
     page: &mut Page,
 ) -> Result<(), AllocError>
     requires fits { All IsFitting journal.now }
-    requires within { length journal.now ≤ MAX_ENTRIES }
+    requires within { length journal.now ≤ most_entries }
     ensures { OnOk result (page.new ≡ page.old ++ binding_lines journal.now place.now) }
 {
     let site = place_after(alloc, journal, place)?;

@@ -2,6 +2,7 @@
 #![tactic(auto)]
 
 mod binding_line;
+pub mod fault;
 mod link_line;
 pub mod listing;
 mod queue_line;

@@ -1,14 +1,15 @@
 //! The listing of a journal.
-ghost use Rattle.std.specs.Prelude.{◌≡◌, ◌++◌, ◌≤◌, All, IfOk, OnOk, OnErr, flat_map, length};
+ghost use Rattle.std.specs.Prelude.{◌≡◌, ◌++◌, ◌<◌, ◌≤◌, All, Err, IfOk, OnOk, OnErr, flat_map, length};
 ghost use Rattle.std.specs.Option.{option_to_list};
 ghost use Rattle.fed_journal.specs.Copies.{IsFitting};
-ghost use Rattle.fed_journal.specs.declared.journal.TheConstants.{MAX_ENTRIES};
+ghost use Rattle.fed_journal.specs.Limits.{most_entries};
 ghost use Rattle.fed_status.specs.Bindings.{binding_lines};
 ghost use Rattle.fed_status.specs.Links.{link_line};
 ghost use Rattle.fed_status.specs.Listing.{object_lines, listing};
 ghost use Rattle.fed_status.specs.Queues.{place_begun, places_of, queue_lines};
 
 use crate::binding_line::push_binding_lines;
+use crate::fault::TextFault;
 use crate::link_line::push_link_line;
 use crate::queue_line::push_queue_lines;
 use amqp_props::Text;
@@ -18,6 +19,9 @@ use fed_journal::page::Page;
 use fed_journal::place::Place;
 use journal_scan::links::links_of;
 use std::alloc::{AllocError, Global};
+
+/// The most octets of a page that these calls append to.
+const MAX_TEXT: usize = 67_108_864;
 
 /// Appends the place that the entry begins, if it begins one.
 fn push_place(alloc: Global, entry: &Entry, places: &mut Vec<Place>) -> Result<(), AllocError>
@@ -67,7 +71,7 @@ fn push_bindings(
     page: &mut Page,
 ) -> Result<(), AllocError>
     requires fits { All IsFitting journal.now }
-    requires within { length journal.now ≤ MAX_ENTRIES }
+    requires within { length journal.now ≤ most_entries }
     ensures { OnOk result (page.new ≡ page.old ++ flat_map (binding_lines journal.now) places.now) }
 {
     for place in places {
@@ -95,7 +99,7 @@ fn push_links(
 #[tactic(auto, unfolding(crate::specs::Listing::object_lines))]
 fn object_page(alloc: Global, journal: &[Entry]) -> Result<Page, AllocError>
     requires fits { All IsFitting journal.now }
-    requires within { length journal.now ≤ MAX_ENTRIES }
+    requires within { length journal.now ≤ most_entries }
     ensures { IfOk result (λ page. page ≡ object_lines journal.now) }
 {
     let places = places_of(alloc, journal)?;
@@ -109,7 +113,7 @@ fn object_page(alloc: Global, journal: &[Entry]) -> Result<Page, AllocError>
 #[tactic(auto, unfolding(crate::specs::Listing::listing))]
 fn listing_page(alloc: Global, journal: &[Entry]) -> Result<Page, AllocError>
     requires fits { All IsFitting journal.now }
-    requires within { length journal.now ≤ MAX_ENTRIES }
+    requires within { length journal.now ≤ most_entries }
     ensures { IfOk result (λ page. page ≡ listing journal.now) }
 {
     let links = links_of(alloc, journal)?;
@@ -118,36 +122,56 @@ fn listing_page(alloc: Global, journal: &[Entry]) -> Result<Page, AllocError>
     Ok(page)
 }
 
+/// Appends a text, unless the page gets too long.
+///
+/// # Errors
+///
+/// `Long` where the page would have over 67,108,864 octets, or for want of memory; the page is then as it was.
+fn append(page: &mut Page, lines: &Page) -> Result<(), TextFault>
+    ensures appended { OnOk result (page.new ≡ page.old ++ lines.now) }
+    ensures within { OnOk result (length (page.old ++ lines.now) ≤ 67108864) }
+    ensures long { result ≡ Err TextFault.Long → 67108864 < length (page.old ++ lines.now) }
+    ensures untouched { OnErr result (page.new ≡ page.old) }
+{
+    let length = page.as_str().len();
+    let more = lines.as_str();
+    if length > MAX_TEXT || more.len() > MAX_TEXT - length {
+        return Err(TextFault::Long);
+    }
+    page.push(more)?;
+    Ok(())
+}
+
 /// Appends the queues and bindings of the journal.
 ///
 /// # Errors
 ///
-/// For want of memory, and nothing is appended then.
-pub fn push_object_lines(
-    alloc: Global,
-    journal: &[Entry],
-    page: &mut Page,
-) -> Result<(), AllocError>
+/// `Long` where the page would have over 67,108,864 octets, or for want of memory; nothing is appended then.
+pub fn push_object_lines(alloc: Global, journal: &[Entry], page: &mut Page) -> Result<(), TextFault>
     requires fits { All IsFitting journal.now }
-    requires within { length journal.now ≤ MAX_ENTRIES }
+    requires within { length journal.now ≤ most_entries }
     ensures lines { OnOk result (page.new ≡ page.old ++ object_lines journal.now) }
+    ensures short { OnOk result (length (page.old ++ object_lines journal.now) ≤ 67108864) }
+    ensures long { result ≡ Err TextFault.Long → 67108864 < length (page.old ++ object_lines journal.now) }
     ensures untouched { OnErr result (page.new ≡ page.old) }
 {
     let lines = object_page(alloc, journal)?;
-    page.push(lines.as_str())
+    append(page, &lines)
 }
 
 /// Appends the listing of the journal: its queues, bindings and links.
 ///
 /// # Errors
 ///
-/// For want of memory, and nothing is appended then.
-pub fn push_listing(alloc: Global, journal: &[Entry], page: &mut Page) -> Result<(), AllocError>
+/// `Long` where the page would have over 67,108,864 octets, or for want of memory; nothing is appended then.
+pub fn push_listing(alloc: Global, journal: &[Entry], page: &mut Page) -> Result<(), TextFault>
     requires fits { All IsFitting journal.now }
-    requires within { length journal.now ≤ MAX_ENTRIES }
+    requires within { length journal.now ≤ most_entries }
     ensures listing { OnOk result (page.new ≡ page.old ++ listing journal.now) }
+    ensures short { OnOk result (length (page.old ++ listing journal.now) ≤ 67108864) }
+    ensures long { result ≡ Err TextFault.Long → 67108864 < length (page.old ++ listing journal.now) }
     ensures untouched { OnErr result (page.new ≡ page.old) }
 {
     let lines = listing_page(alloc, journal)?;
-    page.push(lines.as_str())
+    append(page, &lines)
 }

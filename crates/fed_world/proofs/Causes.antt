@@ -5,7 +5,7 @@ use Rattle.std.specs.Prelude.{codes, not}
 use Rattle.amqp_props.specs.declared.link.QueueOptions.{QueueOptions}
 use Rattle.fed_journal.specs.declared.place.Place.{Place}
 use Rattle.fed_journal.specs.Configuration.{queue_options}
-use Rattle.fed_world.specs.Publish.{first_copy}
+use Rattle.fed_journal.specs.Publish.{first_copy}
 use Rattle.fed_world.specs.Take.{first_ready_at}
 use Rattle.fed_journal.specs.declared.link.LinkSpec.{LinkSpec}
 use Rattle.fed_journal.specs.declared.entry.Publisher.{Publisher}

@@ -13,7 +13,7 @@ use Rattle.fed_journal.specs.declared.entry.Entry.{Entry}
 use Rattle.fed_journal.specs.declared.entry.Entry.TheVariants.{Begun, ShovelSet}
 use Rattle.fed_journal.specs.Configuration.{begins, is_broker, is_place}
 use Rattle.fed_journal.specs.Names.{same_text, same_place}
-use Rattle.fed_journal.specs.declared.link.TheConstants.{DEFAULT_PREFETCH}
+use Rattle.fed_journal.specs.Limits.{default_prefetch}
 use Rattle.fed_journal.specs.Words.{shovel_link_name}
 use Rattle.fed_journal.specs.Links.{place_at, place_named, start_state, spec_of, links_set_by, links_of_broker, links_of, is_named, link_of, sets_shovel, is_shovel_set}
 use Rattle.broker_view.proofs.Names.{same_text-true, same_text-refl}
@@ -67,7 +67,7 @@ spec_between owner name shovel source target = record {
   source_queue = shovel.source_queue;
   target_queue = shovel.target_queue;
   mode = shovel.mode;
-  prefetch = DEFAULT_PREFETCH;
+  prefetch = default_prefetch;
 }
 
 spec_of-is : (J : List Entry) (owner : Place) (name : List ℕ) (shovel : Shovel) → spec_of J owner name shovel ≡ spec_between owner name shovel (place_named J (place_at shovel.source owner)) (place_named J (place_at shovel.target owner))

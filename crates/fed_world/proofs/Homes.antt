@@ -19,7 +19,7 @@ use Rattle.broker_view.proofs.Names.{same_text-true, same_place-true}
 use Rattle.broker_view.proofs.Publications.{publication-skip, publication-head, publication-longer, position-none, position-here, position-later, position-within}
 use Rattle.broker_view.proofs.Secured.{publication-at}
 use Rattle.fed_world.specs.Kept.{StandsAfter}
-use Rattle.fed_world.specs.Publish.{first_copy}
+use Rattle.fed_journal.specs.Publish.{first_copy}
 use Rattle.fed_world.specs.Take.{first_ready_at}
 use Rattle.fed_world.proofs.Causes.{is_shared, is_shared_in, Caused, EachCaused, SharesSource, TakesFirst, caused-at, caused-back}
 use Rattle.fed_world.proofs.Described.{described-later}

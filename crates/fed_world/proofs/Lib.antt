@@ -1,4 +1,5 @@
 pub mod Causes
+pub mod Declared
 pub mod Described
 pub mod Ends
 pub mod Held

@@ -8,11 +8,10 @@ use Rattle.std.proofs.lemmas.List.Sums.{sum_by-append, sum_by-cons}
 use Rattle.std.proofs.lemmas.List.Concat.{length-flat_map}
 use Rattle.fed_journal.specs.declared.entry.Entry.{Entry}
 use Rattle.fed_journal.specs.declared.entry.Entry.TheVariants.{Begun, ShovelSet}
-use Rattle.fed_journal.specs.declared.journal.TheConstants.{MAX_ENTRIES, MAX_BYTES}
+use Rattle.fed_journal.specs.Limits.{most_entries, most_bytes, most_links}
 use Rattle.fed_journal.specs.Links.{spec_of, links_set_by, links_of_broker, links_of}
 use Rattle.fed_journal.specs.Names.{same_text}
 use Rattle.fed_journal.specs.Sizes.{byte_count}
-use Rattle.fed_world.specs.declared.limits.TheConstants.{MAX_LINKS}
 use Rattle.fed_world.specs.declared.reason.StepFault.TheVariants.{Links, Entries, Bytes}
 use Rattle.fed_world.specs.Limits.{limit_of, sets_at, set_count, links_begun, changes_links}
 
@@ -79,23 +78,23 @@ links-stay J K h =
 
 -- ---- limits
 
-pub limit-links : (J K : List Entry) → nat_lt MAX_LINKS (length (links_of (J ++ K))) ≡ true → limit_of J K ≡ Some Links
+pub limit-links : (J K : List Entry) → nat_lt most_links (length (links_of (J ++ K))) ≡ true → limit_of J K ≡ Some Links
 limit-links J K h = rw h refl
 
-pub limit-entries : (J K : List Entry) → nat_lt MAX_LINKS (length (links_of (J ++ K))) ≡ false → MAX_ENTRIES < length J + length K → limit_of J K ≡ Some Entries
-limit-entries J K h k = rw (h, lt-ltb MAX_ENTRIES (length J + length K) k) refl
+pub limit-entries : (J K : List Entry) → nat_lt most_links (length (links_of (J ++ K))) ≡ false → most_entries < length J + length K → limit_of J K ≡ Some Entries
+limit-entries J K h k = rw (h, lt-ltb most_entries (length J + length K) k) refl
 
-pub limit-bytes : (J K : List Entry) → nat_lt MAX_LINKS (length (links_of (J ++ K))) ≡ false → length J + length K ≤ MAX_ENTRIES → MAX_BYTES < byte_count J + byte_count K → limit_of J K ≡ Some Bytes
-limit-bytes J K h k m = rw (h, le-ltb MAX_ENTRIES (length J + length K) k, lt-ltb MAX_BYTES (byte_count J + byte_count K) m) refl
+pub limit-bytes : (J K : List Entry) → nat_lt most_links (length (links_of (J ++ K))) ≡ false → length J + length K ≤ most_entries → most_bytes < byte_count J + byte_count K → limit_of J K ≡ Some Bytes
+limit-bytes J K h k m = rw (h, le-ltb most_entries (length J + length K) k, lt-ltb most_bytes (byte_count J + byte_count K) m) refl
 
-pub limit-none : (J K : List Entry) → nat_lt MAX_LINKS (length (links_of (J ++ K))) ≡ false → length J + length K ≤ MAX_ENTRIES → byte_count J + byte_count K ≤ MAX_BYTES → limit_of J K ≡ None
-limit-none J K h k m = rw (h, le-ltb MAX_ENTRIES (length J + length K) k, le-ltb MAX_BYTES (byte_count J + byte_count K) m) refl
+pub limit-none : (J K : List Entry) → nat_lt most_links (length (links_of (J ++ K))) ≡ false → length J + length K ≤ most_entries → byte_count J + byte_count K ≤ most_bytes → limit_of J K ≡ None
+limit-none J K h k m = rw (h, le-ltb most_entries (length J + length K) k, le-ltb most_bytes (byte_count J + byte_count K) m) refl
 
-none-by : (J K : List Entry) (a b c : Bool) → nat_lt MAX_LINKS (length (links_of (J ++ K))) ≡ a → nat_lt MAX_ENTRIES (length J + length K) ≡ b → (if a then Some Links else if b then Some Entries else if c then Some Bytes else None) ≡ None → (length (links_of (J ++ K)) ≤ MAX_LINKS) × (length J + length K ≤ MAX_ENTRIES)
+none-by : (J K : List Entry) (a b c : Bool) → nat_lt most_links (length (links_of (J ++ K))) ≡ a → nat_lt most_entries (length J + length K) ≡ b → (if a then Some Links else if b then Some Entries else if c then Some Bytes else None) ≡ None → (length (links_of (J ++ K)) ≤ most_links) × (length J + length K ≤ most_entries)
 none-by J K true b c e f h = absurd (none-some Links (sym h))
 none-by J K false true c e f h = absurd (none-some Entries (sym h))
-none-by J K false false c e f h = (ltb-false MAX_LINKS (length (links_of (J ++ K))) e, ltb-false MAX_ENTRIES (length J + length K) f)
+none-by J K false false c e f h = (ltb-false most_links (length (links_of (J ++ K))) e, ltb-false most_entries (length J + length K) f)
 
 -- no limit of links or entries is passed
-pub limit-kept : (J K : List Entry) → limit_of J K ≡ None → (length (links_of (J ++ K)) ≤ MAX_LINKS) × (length J + length K ≤ MAX_ENTRIES)
-limit-kept J K h = none-by J K (nat_lt MAX_LINKS (length (links_of (J ++ K)))) (nat_lt MAX_ENTRIES (length J + length K)) (nat_lt MAX_BYTES (byte_count J + byte_count K)) refl refl h
+pub limit-kept : (J K : List Entry) → limit_of J K ≡ None → (length (links_of (J ++ K)) ≤ most_links) × (length J + length K ≤ most_entries)
+limit-kept J K h = none-by J K (nat_lt most_links (length (links_of (J ++ K)))) (nat_lt most_entries (length J + length K)) (nat_lt most_bytes (byte_count J + byte_count K)) refl refl h

@@ -24,24 +24,24 @@ use Rattle.fed_journal.specs.Links.{link_of, links_of, is_named, is_shovel_set}
 use Rattle.fed_journal.specs.Phases.{phase, session, is_open}
 use Rattle.broker_view.proofs.Names.{same_text-true}
 use Rattle.broker_view.proofs.Configured.{options-push}
-use Rattle.fed_world.specs.declared.reason.Reason.TheVariants as why
-use Rattle.fed_world.specs.Row.{oldest, lock_refusal, queue_refusal, channel_of}
-use Rattle.fed_world.specs.Answer.{answer_refusal, ack_row, reject_row, requeue_row}
-use Rattle.fed_world.specs.Consume.{consumes, consume_row, cancel_row}
-use Rattle.fed_world.specs.Deliver.{is_busy, deliver_to, deliver_row}
-use Rattle.fed_world.specs.Get.{get_row}
-use Rattle.fed_world.specs.Purge.{purge_row}
-use Rattle.fed_world.specs.Close.{close_row}
-use Rattle.fed_world.specs.Declare.{declare_row, declared_queue, same_options, declare_exchange_row, declared_exchange, same_shape, is_exchange_refused, stands, is_refused, lasting}
-use Rattle.fed_world.specs.Publish.{publish_row, publish_refusal}
+use Rattle.fed_journal.specs.declared.reason.Reason.TheVariants as why
+use Rattle.fed_journal.specs.Row.{oldest, lock_refusal, queue_refusal, channel_of}
+use Rattle.fed_journal.specs.Answer.{answer_refusal, ack_row, reject_row, requeue_row}
+use Rattle.fed_journal.specs.Consume.{consumes, consume_refusal, consume_row, cancel_row}
+use Rattle.fed_journal.specs.Deliver.{is_busy, deliver_to, deliver_row}
+use Rattle.fed_journal.specs.Get.{get_row}
+use Rattle.fed_journal.specs.Purge.{purge_row}
+use Rattle.fed_journal.specs.Close.{close_row}
+use Rattle.fed_journal.specs.Declare.{declare_row, queue_declared, declare_exchange_row, exchange_declared, stands, lasting}
+use Rattle.fed_journal.specs.Publish.{publish_row, publish_refusal}
 use Rattle.amqp_props.specs.declared.link.QueueOptions.{QueueOptions}
 use Rattle.amqp_props.specs.declared.message.Message.{Message}
 use Rattle.route_core.specs.declared.binding.Binding.{Binding}
 use Rattle.client_rules.specs.declared.client.ExchangeShape.{ExchangeShape}
 use Rattle.fed_journal.specs.Configuration.{queue_options, exchange_shape}
 use Rattle.fed_journal.specs.Routes.{is_bound}
-use Rattle.fed_world.specs.Bind.{bind_refusal, bind_row, unbind_row}
-use Rattle.fed_world.specs.Flush.{flush_row}
+use Rattle.fed_journal.specs.Bind.{bind_refusal, bind_row, unbind_row}
+use Rattle.fed_journal.specs.Flush.{flush_row}
 use Rattle.fed_world.specs.SetShovel.{set_shovel_row}
 use Rattle.fed_world.specs.Open.{open_row, opened, is_source_locked, open_if_startable, made_if, is_target_missing}
 use Rattle.fed_world.specs.Take.{take_row, is_full, first_ready_at}
@@ -61,7 +61,8 @@ use Rattle.std.proofs.Common.{◌∙◌}
 use Rattle.std.specs.Prelude.{codes}
 use Rattle.std.proofs.lemmas.Bool.{and_parts}
 use Rattle.fed_journal.specs.Configuration.{is_place}
-use Rattle.fed_world.proofs.RowHas.{unless_refused-has, unless_known_refused-has, if_not-has, at_known_place-has, while_known_open-has, RowHas, either-has, at_place-has, with_link-has, while_open-has, one_or_empty-has}
+use Rattle.fed_world.proofs.Declared.{queue-made}
+use Rattle.fed_world.proofs.RowHas.{unless_refused-has, unless_known_refused-has, if_not-has, at_known_place-has, while_known_open-has, RowHas, either-has, at_place-has, with_link-has, while_open-has, one_or_empty-has, made_row-has}
 use Rattle.fed_world.proofs.Homes.{entered_by-enters}
 use Rattle.fed_world.proofs.Queues.{shared-push, is_queue-refl, is_queue-other}
 
@@ -222,23 +223,15 @@ unfolding set_shovel_row
 set_shovel_row-caused J p name shovel =
     at_known_place-has (EachCaused J) J p _ (λ there. if_not-has (EachCaused J) (is_shovel_set J p name) (Ok []) (Ok (ShovelSet p name shovel ∷ [])) tt (λ fresh. ((place-vhost J p there, fresh), tt)))
 
-declared_queue-caused : (J : List Entry) (p : Place) (client : ℕ) (q : List ℕ) (options : QueueOptions) (was : Option QueueOptions) → queue_options J p q ≡ was → RowHas (EachCaused J) (declared_queue p client q options was)
-declared_queue-caused J p client q options None e = (e, tt)
-declared_queue-caused J p client q options (Some was) e = either-has (EachCaused J) (same_options was options) (Ok []) (Err (why.Refused 406)) tt tt
-
 declare_row-caused : (J : List Entry) (p : Place) (client : ℕ) (q : List ℕ) (options : QueueOptions) → RowHas (EachCaused J) (declare_row J p client q options)
 unfolding declare_row
 declare_row-caused J p client q options =
-    at_place-has (EachCaused J) J p _ (either-has (EachCaused J) (is_refused J p q) _ _ tt (unless_refused-has (EachCaused J) (lock_refusal J p client q) _ (declared_queue-caused J p client q options (queue_options J p q) refl)))
-
-declared_exchange-caused : (J : List Entry) (p : Place) (x : List ℕ) (shape : ExchangeShape) (was : Option ExchangeShape) → RowHas (EachCaused J) (declared_exchange p x shape was)
-declared_exchange-caused J p x shape None = (tt, tt)
-declared_exchange-caused J p x shape (Some was) = either-has (EachCaused J) (same_shape was shape) (Ok []) (Err (why.Refused 406)) tt tt
+    at_place-has (EachCaused J) J p _ (made_row-has (EachCaused J) _ (queue_declared J p client q options) (λ made. (queue-made J p client q options made, tt)) tt)
 
 declare_exchange_row-caused : (J : List Entry) (p : Place) (x : List ℕ) (shape : ExchangeShape) → RowHas (EachCaused J) (declare_exchange_row J p x shape)
 unfolding declare_exchange_row
 declare_exchange_row-caused J p x shape =
-    at_place-has (EachCaused J) J p _ (either-has (EachCaused J) (is_exchange_refused J p x) _ _ tt (declared_exchange-caused J p x shape (exchange_shape J p x)))
+    at_place-has (EachCaused J) J p _ (made_row-has (EachCaused J) _ (exchange_declared J p x shape) (λ made. (tt, tt)) tt)
 
 bind_row-caused : (J : List Entry) (p : Place) (client : ℕ) (b : Binding) → RowHas (EachCaused J) (bind_row J p client b)
 unfolding bind_row
@@ -365,7 +358,7 @@ requeue_row-caused J p client c = unless_known_refused-has (EachCaused J) (answe
 consume_row-caused : (J : List Entry) (p : Place) (client : ℕ) (q tag : List ℕ) (no_ack : Bool) (prefetch : ℕ) → RowHas (EachCaused J) (consume_row J p client q tag no_ack prefetch)
 unfolding consume_row
 consume_row-caused J p client q tag no_ack prefetch =
-    at_place-has (EachCaused J) J p _ (unless_refused-has (EachCaused J) (queue_refusal J p client q) _ (either-has (EachCaused J) (consumes J p client tag) _ _ tt (tt, tt)))
+    at_place-has (EachCaused J) J p _ (unless_refused-has (EachCaused J) (consume_refusal J p client q tag) _ (tt, tt))
 
 cancel_row-caused : (J : List Entry) (p : Place) (client : ℕ) (tag : List ℕ) → RowHas (EachCaused J) (cancel_row J p client tag)
 unfolding cancel_row

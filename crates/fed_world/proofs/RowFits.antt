@@ -23,24 +23,24 @@ use Rattle.fed_journal.specs.Holds.{first_ready, ready_count}
 use Rattle.fed_journal.specs.Consumers.{Consumer, consumer}
 use Rattle.fed_journal.specs.Outgoing.{outgoing}
 use Rattle.fed_journal.specs.Flight.{flight_took, flight_sent, flight_published, flight_confirmed, flight_noted}
-use Rattle.fed_world.specs.declared.reason.Reason.{Reason}
-use Rattle.fed_world.specs.declared.reason.Reason.TheVariants as why
-use Rattle.fed_world.specs.Row.{Row, at_place, with_link, with_spec, while_open, unless_refused, lock_refusal, queue_refusal, channel_of, one_or_empty, oldest}
-use Rattle.fed_world.specs.Answer.{answer_refusal, ack_row, reject_row, requeue_row}
-use Rattle.fed_world.specs.Consume.{consumes, consume_row, cancel_row}
-use Rattle.fed_world.specs.Deliver.{is_busy, deliver_to, deliver_row}
-use Rattle.fed_world.specs.Get.{get_row}
-use Rattle.fed_world.specs.Purge.{purge_row}
-use Rattle.fed_world.specs.Close.{close_row}
-use Rattle.fed_world.specs.Declare.{declare_row, declared_queue, same_options, declare_exchange_row, declared_exchange, same_shape, is_exchange_refused, stands, is_refused, lasting}
-use Rattle.fed_world.specs.Publish.{publish_row, publish_refusal, published, first_copy}
+use Rattle.fed_journal.specs.declared.reason.Reason.{Reason}
+use Rattle.fed_journal.specs.declared.reason.Reason.TheVariants as why
+use Rattle.fed_journal.specs.Row.{Row, at_place, with_link, with_spec, while_open, unless_refused, lock_refusal, queue_refusal, channel_of, one_or_empty, oldest, made_row}
+use Rattle.fed_journal.specs.Answer.{answer_refusal, ack_row, reject_row, requeue_row}
+use Rattle.fed_journal.specs.Consume.{consumes, consume_refusal, consume_row, cancel_row}
+use Rattle.fed_journal.specs.Deliver.{is_busy, deliver_to, deliver_row}
+use Rattle.fed_journal.specs.Get.{get_row}
+use Rattle.fed_journal.specs.Purge.{purge_row}
+use Rattle.fed_journal.specs.Close.{close_row}
+use Rattle.fed_journal.specs.Declare.{declare_row, queue_declared, declare_exchange_row, exchange_declared, stands, lasting}
+use Rattle.fed_journal.specs.Publish.{publish_row, publish_refusal, published, first_copy}
 use Rattle.amqp_props.specs.declared.link.QueueOptions.{QueueOptions}
 use Rattle.route_core.specs.declared.binding.Binding.{Binding}
 use Rattle.client_rules.specs.declared.client.ExchangeShape.{ExchangeShape}
 use Rattle.fed_journal.specs.Configuration.{queue_options, exchange_shape, queues_owned}
 use Rattle.fed_journal.specs.Routes.{is_bound, routes}
-use Rattle.fed_world.specs.Bind.{bind_refusal, bind_row, unbind_row}
-use Rattle.fed_world.specs.Flush.{flush_row}
+use Rattle.fed_journal.specs.Bind.{bind_refusal, bind_row, unbind_row}
+use Rattle.fed_journal.specs.Flush.{flush_row}
 use Rattle.fed_world.specs.SetShovel.{set_shovel_row}
 use Rattle.fed_world.specs.Open.{open_row, opened, is_source_locked, open_if_startable, made_if, is_target_missing}
 use Rattle.fed_world.specs.Take.{take_row, is_full, first_ready_at}
@@ -49,7 +49,7 @@ use Rattle.fed_world.specs.Accept.{accept_row, accept_first, accepted}
 use Rattle.fed_world.specs.Confirm.{confirm_row, confirm_first, confirmed}
 use Rattle.fed_world.specs.Note.{note_row}
 use Rattle.fed_world.specs.Settle.{settle_row}
-use Rattle.fed_journal.specs.declared.journal.TheConstants.{MAX_ENTRIES}
+use Rattle.fed_journal.specs.Limits.{most_entries}
 use Rattle.field_tables.specs.Tables.{IsTable}
 use Rattle.fed_journal.specs.Events.{IsWritable}
 use Rattle.fed_journal.specs.SiteLaws.{routes-few}
@@ -110,7 +110,7 @@ requeue_row-fits J p client c = unless_refused-fits J (answer_refusal J p client
 consume_row-fits : (J : List Entry) (p : Place) (client : ℕ) (q tag : List ℕ) (no_ack : Bool) (prefetch : ℕ) → RowFits J (consume_row J p client q tag no_ack prefetch)
 unfolding consume_row
 consume_row-fits J p client q tag no_ack prefetch =
-    at_place-fits J p _ (unless_refused-fits J (queue_refusal J p client q) _ (either-fits J (consumes J p client tag) _ _ tt (tt, tt)))
+    at_place-fits J p _ (unless_refused-fits J (consume_refusal J p client q tag) _ (tt, tt))
 
 cancel_row-fits : (J : List Entry) (p : Place) (client : ℕ) (tag : List ℕ) → RowFits J (cancel_row J p client tag)
 unfolding cancel_row
@@ -138,23 +138,20 @@ set_shovel_row-fits J p name shovel =
     at_place-fits J p _
     (elim (is_shovel_set J p name) as (λ v. RowFits J (if v then Ok [] else Ok (ShovelSet p name shovel ∷ []))) [ true ↦ tt | false ↦ (tt, tt) ])
 
-declared_queue-fits : (J : List Entry) (p : Place) (client : ℕ) (q : List ℕ) (options : QueueOptions) (was : Option QueueOptions) → RowFits J (declared_queue p client q options was)
-declared_queue-fits J p client q options None = (tt, tt)
-declared_queue-fits J p client q options (Some was) = either-fits J (same_options was options) (Ok []) (Err (why.Refused 406)) tt tt
+made-fits : (J : List Entry) (entry : Entry) (answer : Result Bool Reason) → FitsEntry J entry → RowFits J (made_row entry answer)
+made-fits J entry (Ok true) fits = (fits, tt)
+made-fits J entry (Ok false) fits = tt
+made-fits J entry (Err reason) fits = tt
 
 declare_row-fits : (J : List Entry) (p : Place) (client : ℕ) (q : List ℕ) (options : QueueOptions) → RowFits J (declare_row J p client q options)
 unfolding declare_row
 declare_row-fits J p client q options =
-    at_place-fits J p _ (either-fits J (is_refused J p q) _ _ tt (unless_refused-fits J (lock_refusal J p client q) _ (declared_queue-fits J p client q options (queue_options J p q))))
-
-declared_exchange-fits : (J : List Entry) (p : Place) (x : List ℕ) (shape : ExchangeShape) (was : Option ExchangeShape) → RowFits J (declared_exchange p x shape was)
-declared_exchange-fits J p x shape None = (tt, tt)
-declared_exchange-fits J p x shape (Some was) = either-fits J (same_shape was shape) (Ok []) (Err (why.Refused 406)) tt tt
+    at_place-fits J p _ (made-fits J _ (queue_declared J p client q options) tt)
 
 declare_exchange_row-fits : (J : List Entry) (p : Place) (x : List ℕ) (shape : ExchangeShape) → RowFits J (declare_exchange_row J p x shape)
 unfolding declare_exchange_row
 declare_exchange_row-fits J p x shape =
-    at_place-fits J p _ (either-fits J (is_exchange_refused J p x) _ _ tt (declared_exchange-fits J p x shape (exchange_shape J p x)))
+    at_place-fits J p _ (made-fits J _ (exchange_declared J p x shape) tt)
 
 bind_row-fits : (J : List Entry) (p : Place) (client : ℕ) (b : Binding) → IsTable b.args → RowFits J (bind_row J p client b)
 unfolding bind_row
@@ -171,10 +168,10 @@ routes-fit : (J : List Entry) (queues : List (List ℕ)) → length queues ≤ 2
 routes-fit J [] few small = omega arith
 routes-fit J (q ∷ qs) few small = omega (arith, few, small)
 
-published-fits : (J : List Entry) (p : Place) (by : Publisher) (m : Message) → IsMessage m → length J ≤ MAX_ENTRIES → copy_count J < 2 ^ 63 → FitsEntry J (published J p by m)
+published-fits : (J : List Entry) (p : Place) (by : Publisher) (m : Message) → IsMessage m → length J ≤ most_entries → copy_count J < 2 ^ 63 → FitsEntry J (published J p by m)
 published-fits J p by m t within small = (routes-fit J (routes J p m) (omega (arith, routes-few J p m, within)) small, t)
 
-publish_row-fits : (J : List Entry) (p : Place) (client : ℕ) (m : Message) → IsMessage m → length J ≤ MAX_ENTRIES → copy_count J < 2 ^ 63 → RowFits J (publish_row J p client m)
+publish_row-fits : (J : List Entry) (p : Place) (client : ℕ) (m : Message) → IsMessage m → length J ≤ most_entries → copy_count J < 2 ^ 63 → RowFits J (publish_row J p client m)
 unfolding publish_row
 publish_row-fits J p client m t within small =
     at_place-fits J p _ (unless_refused-fits J (publish_refusal J p m.exchange) _ (published-fits J p (Client (channel_of client)) m t within small, tt))
@@ -197,16 +194,16 @@ source-sized c (Published x ∷ J) h =
     ]
 source-sized c (e ∷ J) h = source-sized c J (All-tail IsSized e J h)
 
-accepted-fits : (J : List Entry) (spec : LinkSpec) (c : ℕ) (target : Option Place) (x : Option Publication) → IsSizedSource x → length J ≤ MAX_ENTRIES → copy_count J < 2 ^ 63 → RowFits J (accepted J spec c target x)
+accepted-fits : (J : List Entry) (spec : LinkSpec) (c : ℕ) (target : Option Place) (x : Option Publication) → IsSizedSource x → length J ≤ most_entries → copy_count J < 2 ^ 63 → RowFits J (accepted J spec c target x)
 accepted-fits J spec c (Some target) (Some x) t within small = (published-fits J target (Link spec.name (session J spec.name) c) (outgoing spec x.message) (outgoing-sized spec x.message t) within small, tt)
 accepted-fits J spec c (Some target) None t within small = tt
 accepted-fits J spec c None x t within small = tt
 
-accept_first-fits : (J : List Entry) (spec : LinkSpec) (c : Option ℕ) → All IsSized J → length J ≤ MAX_ENTRIES → copy_count J < 2 ^ 63 → RowFits J (accept_first J spec c)
+accept_first-fits : (J : List Entry) (spec : LinkSpec) (c : Option ℕ) → All IsSized J → length J ≤ most_entries → copy_count J < 2 ^ 63 → RowFits J (accept_first J spec c)
 accept_first-fits J spec None sized within small = tt
 accept_first-fits J spec (Some c) sized within small = accepted-fits J spec c spec.target (publication_of c J) (source-sized c J sized) within small
 
-accept_row-fits : (J : List Entry) (l : List ℕ) → All IsSized J → length J ≤ MAX_ENTRIES → copy_count J < 2 ^ 63 → RowFits J (accept_row J l)
+accept_row-fits : (J : List Entry) (l : List ℕ) → All IsSized J → length J ≤ most_entries → copy_count J < 2 ^ 63 → RowFits J (accept_row J l)
 unfolding accept_row
 accept_row-fits J l sized within small =
     with_link-fits J l _ (λ spec. while_open-fits J l _ (accept_first-fits J spec (oldest (flight_sent J l (session J l))) sized within small))
@@ -264,7 +261,7 @@ unfolding open_row
 open_row-fits J l h = with_link-fits J l _ (λ spec. open_if_startable-fits J spec spec.start (h spec.name))
 
 -- whatever the event, its entries fit
-pub next-fits : (J : List Entry) (e : Event) → IsWritable e → length J ≤ MAX_ENTRIES → copy_count J < 2 ^ 63 → ((k : List ℕ) → session J k ≤ length J) → All IsSized J → RowFits J (next J e)
+pub next-fits : (J : List Entry) (e : Event) → IsWritable e → length J ≤ most_entries → copy_count J < 2 ^ 63 → ((k : List ℕ) → session J k ≤ length J) → All IsSized J → RowFits J (next J e)
 next-fits J (DeclareQueue p c q options) w within small h sized = declare_row-fits J p c q options
 next-fits J (DeclareExchange p c x shape) w within small h sized = declare_exchange_row-fits J p x shape
 next-fits J (Bind p c b) w within small h sized = bind_row-fits J p c b w

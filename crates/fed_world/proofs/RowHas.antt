@@ -1,15 +1,15 @@
 -- What holds of the entries of a row, by the tests that the row makes.
 use Rattle.std.proofs.Common.{◌≡◌, ℕ, List, [], ◌∷◌, Bool, true, false, Option, Some, None, refl}
-use Rattle.std.specs.Prelude.{Ok, Err, if◌then◌else◌}
+use Rattle.std.specs.Prelude.{Result, Ok, Err, if◌then◌else◌}
 use Rattle.fed_journal.specs.declared.place.Place.{Place}
 use Rattle.fed_journal.specs.declared.link.LinkSpec.{LinkSpec}
 use Rattle.fed_journal.specs.declared.entry.Entry.{Entry}
 use Rattle.fed_journal.specs.Configuration.{is_place}
 use Rattle.fed_journal.specs.Links.{link_of}
 use Rattle.fed_journal.specs.Phases.{phase, is_open}
-use Rattle.fed_world.specs.declared.reason.Reason.{Reason}
-use Rattle.fed_world.specs.declared.reason.Reason.TheVariants.{NoPlace, NotOpen}
-use Rattle.fed_world.specs.Row.{Row, at_place, with_link, with_spec, while_open, unless_refused, one_or_empty}
+use Rattle.fed_journal.specs.declared.reason.Reason.{Reason}
+use Rattle.fed_journal.specs.declared.reason.Reason.TheVariants.{NoPlace, NotOpen}
+use Rattle.fed_journal.specs.Row.{Row, at_place, with_link, with_spec, while_open, unless_refused, made_row, one_or_empty}
 
 -- P of the row's entries, if it has any
 abbrev pub RowHas : (List Entry → Type 0) → Row → Type 0
@@ -54,6 +54,11 @@ one_or_empty-has P entry (Some n) h = h n refl
 pub unless_refused-has : (P : List Entry → Type 0) (o : Option Reason) (row : Row) → RowHas P row → RowHas P (unless_refused o row)
 unless_refused-has P None row h = h
 unless_refused-has P (Some reason) row h = tt
+
+pub made_row-has : (P : List Entry → Type 0) (entry : Entry) (answer : Result Bool Reason) → (answer ≡ Ok true → P (entry ∷ [])) → P [] → RowHas P (made_row entry answer)
+made_row-has P entry (Ok true) h k = h refl
+made_row-has P entry (Ok false) h k = k
+made_row-has P entry (Err reason) h k = tt
 
 pub unless_known_refused-has : (P : List Entry → Type 0) (o : Option Reason) (row : Row) → (o ≡ None → RowHas P row) → RowHas P (unless_refused o row)
 unless_known_refused-has P None row h = h refl

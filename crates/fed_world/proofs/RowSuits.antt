@@ -32,18 +32,18 @@ use Rattle.fed_journal.specs.Links.{is_shovel_set}
 use Rattle.fed_journal.specs.Outgoing.{outgoing}
 use Rattle.fed_journal.specs.Phases.{phase, session, is_open}
 use Rattle.broker_view.specs.Suits.{is_begun, Suits, EachSuits}
-use Rattle.fed_world.specs.declared.reason.Reason.TheVariants as why
-use Rattle.fed_world.specs.Row.{Row, oldest, lock_refusal, queue_refusal, channel_of}
-use Rattle.fed_world.specs.Declare.{declare_row, declared_queue, same_options, declare_exchange_row, declared_exchange, same_shape, is_exchange_refused, stands, is_refused, lasting}
-use Rattle.fed_world.specs.Bind.{bind_refusal, bind_row, unbind_row}
-use Rattle.fed_world.specs.Publish.{publish_row, publish_refusal, publication, published}
-use Rattle.fed_world.specs.Consume.{consumes, consume_row, cancel_row}
-use Rattle.fed_world.specs.Deliver.{is_busy, deliver_to, deliver_row}
-use Rattle.fed_world.specs.Get.{get_row}
-use Rattle.fed_world.specs.Answer.{answer_refusal, ack_row, reject_row, requeue_row}
-use Rattle.fed_world.specs.Purge.{purge_row}
-use Rattle.fed_world.specs.Close.{close_row}
-use Rattle.fed_world.specs.Flush.{flush_row}
+use Rattle.fed_journal.specs.declared.reason.Reason.TheVariants as why
+use Rattle.fed_journal.specs.Row.{Row, oldest, lock_refusal, queue_refusal, channel_of}
+use Rattle.fed_journal.specs.Declare.{declare_row, queue_declared, declare_exchange_row, exchange_declared, stands, lasting}
+use Rattle.fed_journal.specs.Bind.{bind_refusal, bind_row, unbind_row}
+use Rattle.fed_journal.specs.Publish.{publish_row, publish_refusal, publication, published}
+use Rattle.fed_journal.specs.Consume.{consumes, consume_refusal, consume_row, cancel_row}
+use Rattle.fed_journal.specs.Deliver.{is_busy, deliver_to, deliver_row}
+use Rattle.fed_journal.specs.Get.{get_row}
+use Rattle.fed_journal.specs.Answer.{answer_refusal, ack_row, reject_row, requeue_row}
+use Rattle.fed_journal.specs.Purge.{purge_row}
+use Rattle.fed_journal.specs.Close.{close_row}
+use Rattle.fed_journal.specs.Flush.{flush_row}
 use Rattle.fed_world.specs.SetShovel.{set_shovel_row}
 use Rattle.fed_world.specs.Open.{open_row, opened, is_source_locked, open_if_startable, made_if, is_target_missing}
 use Rattle.fed_world.specs.Take.{take_row, is_full, first_ready_at}
@@ -58,7 +58,8 @@ use Rattle.fed_world.specs.Run.{begin, begun}
 use Rattle.fed_world.proofs.Causes.{EachCaused}
 use Rattle.fed_world.proofs.Lists.{find-in}
 use Rattle.fed_world.proofs.OwnedQueues.{close-suits}
-use Rattle.fed_world.proofs.RowHas.{RowHas, either-has, if_not-has, at_place-has, with_link-has, while_open-has, one_or_empty-has, unless_refused-has, unless_known_refused-has}
+use Rattle.fed_world.proofs.Declared.{queue-made, exchange-made, tag-free}
+use Rattle.fed_world.proofs.RowHas.{RowHas, either-has, if_not-has, at_place-has, with_link-has, while_open-has, one_or_empty-has, unless_refused-has, unless_known_refused-has, made_row-has}
 use Rattle.fed_world.proofs.RowCaused.{not_there, target-missing, target-fresh, take-cause, answer-held}
 use Rattle.fed_world.proofs.Standings.{waiting-is}
 
@@ -66,27 +67,15 @@ use Rattle.fed_world.proofs.Standings.{waiting-is}
 abbrev pub RowSuits : List Entry → Row → Type 0
 RowSuits J row = RowHas (EachSuits J) row
 
-declared_queue-suits : (J : List Entry) (p : Place) (client : ℕ) (q : List ℕ) (options : QueueOptions) (was : Option QueueOptions) → queue_options J p q ≡ was → RowSuits J (declared_queue p client q options was)
-declared_queue-suits J p client q options None e = (e, tt)
-declared_queue-suits J p client q options (Some was) e = either-has (EachSuits J) (same_options was options) (Ok []) (Err (why.Refused 406)) tt tt
-
 declare_row-suits : (J : List Entry) (p : Place) (client : ℕ) (q : List ℕ) (options : QueueOptions) → RowSuits J (declare_row J p client q options)
 unfolding declare_row
 declare_row-suits J p client q options =
-    at_place-has (EachSuits J) J p _ (either-has (EachSuits J) (is_refused J p q) _ _ tt (unless_refused-has (EachSuits J) (lock_refusal J p client q) _ (declared_queue-suits J p client q options (queue_options J p q) refl)))
-
--- a name that isn't refused isn't empty
-refused-named : (J : List Entry) (p : Place) (x : List ℕ) → is_exchange_refused J p x ≡ false → same_text x [] ≡ false
-refused-named J p x h = (or_parts (same_text x []) (is_reserved x) (or_parts (same_text x [] || is_reserved x) _ h).0).0
-
-declared_exchange-suits : (J : List Entry) (p : Place) (x : List ℕ) (shape : ExchangeShape) (was : Option ExchangeShape) → same_text x [] ≡ false → exchange_shape J p x ≡ was → RowSuits J (declared_exchange p x shape was)
-declared_exchange-suits J p x shape None named e = ((e, named), tt)
-declared_exchange-suits J p x shape (Some was) named e = either-has (EachSuits J) (same_shape was shape) (Ok []) (Err (why.Refused 406)) tt tt
+    at_place-has (EachSuits J) J p _ (made_row-has (EachSuits J) _ (queue_declared J p client q options) (λ made. (queue-made J p client q options made, tt)) tt)
 
 declare_exchange_row-suits : (J : List Entry) (p : Place) (x : List ℕ) (shape : ExchangeShape) → RowSuits J (declare_exchange_row J p x shape)
 unfolding declare_exchange_row
 declare_exchange_row-suits J p x shape =
-    at_place-has (EachSuits J) J p _ (if_not-has (EachSuits J) (is_exchange_refused J p x) _ _ tt (λ h. declared_exchange-suits J p x shape (exchange_shape J p x) (refused-named J p x h) refl))
+    at_place-has (EachSuits J) J p _ (made_row-has (EachSuits J) _ (exchange_declared J p x shape) (λ made. (exchange-made J p x shape made, tt)) tt)
 
 bind_row-suits : (J : List Entry) (p : Place) (client : ℕ) (b : Binding) → RowSuits J (bind_row J p client b)
 unfolding bind_row
@@ -120,7 +109,7 @@ none-there (Some o) h = absurd (true≢false h)
 consume_row-suits : (J : List Entry) (p : Place) (client : ℕ) (q tag : List ℕ) (no_ack : Bool) (prefetch : ℕ) → RowSuits J (consume_row J p client q tag no_ack prefetch)
 unfolding consume_row
 consume_row-suits J p client q tag no_ack prefetch =
-    at_place-has (EachSuits J) J p _ (unless_refused-has (EachSuits J) (queue_refusal J p client q) _ (if_not-has (EachSuits J) (consumes J p client tag) _ _ tt (λ h. (none-there (consumer J p (channel_of client) tag) h, tt))))
+    at_place-has (EachSuits J) J p _ (unless_known_refused-has (EachSuits J) (consume_refusal J p client q tag) _ (λ h. (none-there (consumer J p (channel_of client) tag) (tag-free (queue_refusal J p client q) (consumes J p client tag) h), tt)))
 
 cancel_row-suits : (J : List Entry) (p : Place) (client : ℕ) (tag : List ℕ) → RowSuits J (cancel_row J p client tag)
 unfolding cancel_row

@@ -4,7 +4,7 @@ use Rattle.std.specs.Prelude.{All, if◌then◌else◌}
 use Rattle.std.proofs.lemmas.List.Sums.{fold-append}
 use Rattle.std.proofs.lemmas.List.Elements.{All-nil, All-cons, All-push}
 use Rattle.std.proofs.lemmas.List.{append-nil}
-use Rattle.fed_journal.specs.declared.journal.TheConstants.{MAX_ENTRIES}
+use Rattle.fed_journal.specs.Limits.{most_entries, most_links}
 use Rattle.fed_journal.specs.declared.entry.Entry.{Entry}
 use Rattle.fed_journal.specs.declared.entry.Entry.TheVariants.{Published, Bound, Opened}
 use Rattle.fed_journal.specs.Names.{same_text}
@@ -12,7 +12,6 @@ use Rattle.fed_journal.specs.Copies.{IsFitting, copy_count}
 use Rattle.fed_journal.specs.Links.{links_of}
 use Rattle.fed_journal.specs.Phases.{session, session_step}
 use Rattle.fed_journal.specs.Sizes.{IsSized}
-use Rattle.fed_world.specs.declared.limits.TheConstants.{MAX_LINKS}
 use Rattle.fed_world.specs.Run.{begin, begun}
 use Rattle.fed_world.specs.Sound.{IsSound}
 use Rattle.fed_world.specs.Fits.{FitsEntry, EachFits}
@@ -37,12 +36,12 @@ IsSized-fits J _ fits = tt
 
 -- what a journal keeps entry by entry
 record Grows (J : List Entry) : Type 0 where
-  within : length J ≤ MAX_ENTRIES
+  within : length J ≤ most_entries
   numbered : All IsFitting J
   sized : All IsSized J
   sessions : (l : List ℕ) → session J l ≤ length J
 
-Grows-push : (J : List Entry) (e : Entry) → Grows J → FitsEntry J e → length J + 1 ≤ MAX_ENTRIES → Grows (J ++ e ∷ [])
+Grows-push : (J : List Entry) (e : Entry) → Grows J → FitsEntry J e → length J + 1 ≤ most_entries → Grows (J ++ e ∷ [])
 Grows-push J e grows fits within = record {
   within = simp length-append (omega arith);
   numbered = All-push IsFitting J e grows.numbered (IsFitting-fits J e fits);
@@ -50,13 +49,13 @@ Grows-push J e grows fits within = record {
   sessions = λ l. rw session-push (simp length-append (session_step-fits J e l (grows.sessions l) fits));
 }
 
-Grows-append : (J es : List Entry) → Grows J → EachFits J es → length J + length es ≤ MAX_ENTRIES → Grows (J ++ es)
+Grows-append : (J es : List Entry) → Grows J → EachFits J es → length J + length es ≤ most_entries → Grows (J ++ es)
 Grows-append J [] grows fits within = subst Grows (sym (append-nil J)) grows
 Grows-append J (e ∷ es) grows fits within =
     subst Grows (append_assoc J (e ∷ []) es)
     (Grows-append (J ++ e ∷ []) es (Grows-push J e grows fits.0 (omega arith)) fits.1 (simp length-append (omega arith)))
 
-pub IsSound-append : (J es : List Entry) → IsSound J → EachFits J es → length J + length es ≤ MAX_ENTRIES → length (links_of (J ++ es)) ≤ MAX_LINKS → IsSound (J ++ es)
+pub IsSound-append : (J es : List Entry) → IsSound J → EachFits J es → length J + length es ≤ most_entries → length (links_of (J ++ es)) ≤ most_links → IsSound (J ++ es)
 IsSound-append J es sound fits within links =
     let grown : Grows (J ++ es) = Grows-append J es (record { within = sound.within; numbered = sound.numbered; sized = sound.sized; sessions = sound.sessions }) fits within in
     record { within = grown.within; numbered = grown.numbered; sized = grown.sized; links = links; sessions = grown.sessions }
@@ -81,5 +80,5 @@ EachFits-begin J [] = tt
 EachFits-begin J (b ∷ bs) = (tt, EachFits-begin (J ++ begun b ∷ []) bs)
 
 -- a journal's copies are far fewer than the numbers that 64 bits have
-pub copies-small : {J K : List Entry} → K ≡ J → length K ≤ MAX_ENTRIES → copy_count K ≤ 2 ^ 32 * length K → copy_count J < 2 ^ 63
+pub copies-small : {J K : List Entry} → K ≡ J → length K ≤ most_entries → copy_count K ≤ 2 ^ 32 * length K → copy_count J < 2 ^ 63
 copies-small {J} {K} same within few = subst (λ (L : List Entry). copy_count L < 2 ^ 63) same (omega arith)

@@ -19,21 +19,21 @@ use Rattle.fed_journal.specs.Phases.{phase, session, is_open}
 use Rattle.fed_journal.specs.Holds.{ready_count}
 use Rattle.fed_journal.specs.Flight.{flight_took, flight_sent, flight_published, flight_confirmed}
 use Rattle.broker_view.proofs.Awaited.{closed-stays}
-use Rattle.fed_world.specs.declared.reason.Reason.TheVariants as why
-use Rattle.fed_world.specs.Row.{oldest, lock_refusal, queue_refusal}
-use Rattle.fed_world.specs.Answer.{answer_refusal, requeue_row}
-use Rattle.fed_world.specs.Consume.{consumes, consume_row, cancel_row}
-use Rattle.fed_world.specs.Close.{close_row}
-use Rattle.fed_world.specs.Declare.{declare_row, declared_queue, same_options, declare_exchange_row, declared_exchange, same_shape, is_exchange_refused, stands, is_refused}
-use Rattle.fed_world.specs.Publish.{publish_row, publish_refusal}
+use Rattle.fed_journal.specs.declared.reason.Reason.TheVariants as why
+use Rattle.fed_journal.specs.Row.{oldest, lock_refusal, queue_refusal}
+use Rattle.fed_journal.specs.Answer.{answer_refusal, requeue_row}
+use Rattle.fed_journal.specs.Consume.{consumes, consume_refusal, consume_row, cancel_row}
+use Rattle.fed_journal.specs.Close.{close_row}
+use Rattle.fed_journal.specs.Declare.{declare_row, queue_declared, declare_exchange_row, exchange_declared, stands}
+use Rattle.fed_journal.specs.Publish.{publish_row, publish_refusal}
 use Rattle.amqp_props.specs.declared.link.QueueOptions.{QueueOptions}
 use Rattle.amqp_props.specs.declared.message.Message.{Message}
 use Rattle.route_core.specs.declared.binding.Binding.{Binding}
 use Rattle.client_rules.specs.declared.client.ExchangeShape.{ExchangeShape}
 use Rattle.fed_journal.specs.Configuration.{queue_options, exchange_shape}
 use Rattle.fed_journal.specs.Routes.{is_bound}
-use Rattle.fed_world.specs.Bind.{bind_refusal, bind_row, unbind_row}
-use Rattle.fed_world.specs.Flush.{flush_row}
+use Rattle.fed_journal.specs.Bind.{bind_refusal, bind_row, unbind_row}
+use Rattle.fed_journal.specs.Flush.{flush_row}
 use Rattle.fed_world.specs.SetShovel.{set_shovel_row}
 use Rattle.fed_world.specs.Open.{open_row, opened, is_source_locked, open_if_startable, made_if, is_target_missing}
 use Rattle.fed_world.specs.Send.{send_row}
@@ -42,7 +42,7 @@ use Rattle.fed_world.specs.Confirm.{confirm_row, confirm_first, confirmed}
 use Rattle.fed_world.specs.Note.{note_row}
 use Rattle.fed_world.specs.Step.{next}
 use Rattle.fed_world.specs.Kept.{is_removal}
-use Rattle.fed_world.proofs.RowHas.{RowHas, unless_refused-has, either-has, at_place-has, with_link-has, while_open-has, one_or_empty-has}
+use Rattle.fed_world.proofs.RowHas.{RowHas, unless_refused-has, either-has, at_place-has, with_link-has, while_open-has, one_or_empty-has, made_row-has}
 
 -- the copy's queue goes
 abbrev pub takes_away : ℕ → Publication → Entry → Bool
@@ -130,23 +130,15 @@ unfolding set_shovel_row
 set_shovel_row-spares J p name shovel =
     at_place-has Spares J p _ (either-has Spares (is_shovel_set J p name) (Ok []) (Ok (ShovelSet p name shovel ∷ [])) tt (λ c y t h stay. stays t h, tt))
 
-declared_queue-spares : (p : Place) (client : ℕ) (q : List ℕ) (options : QueueOptions) (was : Option QueueOptions) → RowHas Spares (declared_queue p client q options was)
-declared_queue-spares p client q options None = (λ c y t h stay. stays t h, tt)
-declared_queue-spares p client q options (Some was) = either-has Spares (same_options was options) (Ok []) (Err (why.Refused 406)) tt tt
-
 declare_row-spares : (J : List Entry) (p : Place) (client : ℕ) (q : List ℕ) (options : QueueOptions) → RowHas Spares (declare_row J p client q options)
 unfolding declare_row
 declare_row-spares J p client q options =
-    at_place-has Spares J p _ (either-has Spares (is_refused J p q) _ _ tt (unless_refused-has Spares (lock_refusal J p client q) _ (declared_queue-spares p client q options (queue_options J p q))))
-
-declared_exchange-spares : (p : Place) (x : List ℕ) (shape : ExchangeShape) (was : Option ExchangeShape) → RowHas Spares (declared_exchange p x shape was)
-declared_exchange-spares p x shape None = (λ c y t h stay. stays t h, tt)
-declared_exchange-spares p x shape (Some was) = either-has Spares (same_shape was shape) (Ok []) (Err (why.Refused 406)) tt tt
+    at_place-has Spares J p _ (made_row-has Spares _ (queue_declared J p client q options) (λ h. (λ c y t h stay. stays t h, tt)) tt)
 
 declare_exchange_row-spares : (J : List Entry) (p : Place) (x : List ℕ) (shape : ExchangeShape) → RowHas Spares (declare_exchange_row J p x shape)
 unfolding declare_exchange_row
 declare_exchange_row-spares J p x shape =
-    at_place-has Spares J p _ (either-has Spares (is_exchange_refused J p x) _ _ tt (declared_exchange-spares p x shape (exchange_shape J p x)))
+    at_place-has Spares J p _ (made_row-has Spares _ (exchange_declared J p x shape) (λ h. (λ c y t h stay. stays t h, tt)) tt)
 
 bind_row-spares : (J : List Entry) (p : Place) (client : ℕ) (b : Binding) → RowHas Spares (bind_row J p client b)
 unfolding bind_row
@@ -189,7 +181,7 @@ requeue_row-spares J p client c = unless_refused-has Spares (answer_refusal J p 
 consume_row-spares : (J : List Entry) (p : Place) (client : ℕ) (q tag : List ℕ) (no_ack : Bool) (prefetch : ℕ) → RowHas Spares (consume_row J p client q tag no_ack prefetch)
 unfolding consume_row
 consume_row-spares J p client q tag no_ack prefetch =
-    at_place-has Spares J p _ (unless_refused-has Spares (queue_refusal J p client q) _ (either-has Spares (consumes J p client tag) _ _ tt (λ c y t h stay. stays t h, tt)))
+    at_place-has Spares J p _ (unless_refused-has Spares (consume_refusal J p client q tag) _ (λ c y t h stay. stays t h, tt))
 
 cancel_row-spares : (J : List Entry) (p : Place) (client : ℕ) (tag : List ℕ) → RowHas Spares (cancel_row J p client tag)
 unfolding cancel_row

@@ -13,7 +13,7 @@ use Rattle.fed_journal.specs.declared.entry.Entry.TheVariants.{GoneQueue}
 use Rattle.fed_journal.specs.Copies.{is_left, is_home, standing, publication_of, enters, flushes, is_gone, is_stored, must_be_stored, must_be_stored_from, must_be_stored_at, is_flushed_from, is_flushed_in, publication_in}
 use Rattle.broker_view.proofs.Publications.{standing-push, position-within}
 use Rattle.broker_view.proofs.Secured.{slice_get-append}
-use Rattle.fed_world.specs.Row.{Row}
+use Rattle.fed_journal.specs.Row.{Row}
 use Rattle.fed_world.specs.Step.{next, after}
 use Rattle.fed_world.specs.Run.{run, moment}
 use Rattle.fed_world.specs.Kept.{is_alive, EachMoment, KeepsStored}

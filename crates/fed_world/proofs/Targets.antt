@@ -18,8 +18,8 @@ use Rattle.fed_journal.specs.Names.{same_place}
 use Rattle.fed_journal.specs.Phases.{phase, session, is_open}
 use Rattle.broker_view.specs.Confirms.{publications, is_by, ArePublishedAt}
 use Rattle.broker_view.proofs.Names.{same_place-refl}
-use Rattle.fed_world.specs.declared.reason.Reason.TheVariants.{Empty, NotOpen}
-use Rattle.fed_world.specs.Row.{Row, with_spec, while_open}
+use Rattle.fed_journal.specs.declared.reason.Reason.TheVariants.{Empty, NotOpen}
+use Rattle.fed_journal.specs.Row.{Row, with_spec, while_open}
 use Rattle.fed_world.specs.Confirm.{confirm_row, confirm_first}
 use Rattle.fed_world.specs.Kept.{StandsAfter}
 use Rattle.fed_world.proofs.Causes.{CausedBy, EachCaused, PublishesCopy, caused-at}

@@ -9,9 +9,9 @@ use Rattle.fed_journal.specs.Phases.{session}
 use Rattle.fed_journal.specs.Flight.{flight_sent}
 use Rattle.fed_journal.specs.Copies.{publication_of}
 use Rattle.fed_journal.specs.Outgoing.{outgoing}
-use Rattle.fed_world.specs.declared.reason.Reason.TheVariants.{Empty}
-use Rattle.fed_world.specs.Publish.{published}
-use Rattle.fed_world.specs.Row.{Row, with_link, while_open, oldest}
+use Rattle.fed_journal.specs.declared.reason.Reason.TheVariants.{Empty}
+use Rattle.fed_journal.specs.Publish.{published}
+use Rattle.fed_journal.specs.Row.{Row, with_link, while_open, oldest}
 
 -- what the link publishes at the target for a copy of that publication
 abbrev pub accepted : List Entry → LinkSpec → ℕ → Option Place → Option Publication → Row

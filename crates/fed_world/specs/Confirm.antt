@@ -5,8 +5,8 @@ use Rattle.fed_journal.specs.declared.entry.Entry.TheVariants.{Confirmed}
 use Rattle.fed_journal.specs.Phases.{session}
 use Rattle.fed_journal.specs.Flight.{flight_published}
 use Rattle.fed_journal.specs.Copies.{is_secured}
-use Rattle.fed_world.specs.declared.reason.Reason.TheVariants.{Empty, Unsecured}
-use Rattle.fed_world.specs.Row.{Row, with_link, while_open}
+use Rattle.fed_journal.specs.declared.reason.Reason.TheVariants.{Empty, Unsecured}
+use Rattle.fed_journal.specs.Row.{Row, with_link, while_open}
 
 abbrev pub confirmed : List ℕ → ℕ → Option ℕ → Row
 confirmed l s None = Err Unsecured

@@ -5,7 +5,7 @@ use Rattle.fed_journal.specs.declared.entry.Entry.{Entry}
 use Rattle.fed_journal.specs.declared.entry.Entry.TheVariants.{Published, Bound, Opened}
 use Rattle.fed_journal.specs.Sizes.{IsMessage}
 use Rattle.broker_view.specs.Suits.{EachSuits}
-use Rattle.fed_world.specs.Row.{Row}
+use Rattle.fed_journal.specs.Row.{Row}
 
 -- the numbers that the entry brings fit their types, its message is one that can be sent, and its arguments are a field table
 abbrev pub FitsEntry : List Entry → Entry → Type 0
@@ -23,7 +23,7 @@ abbrev pub RowFits : List Entry → Row → Type 0
 RowFits J (Ok entries) = EachFits J entries
 RowFits J (Err reason) = Unit {0}
 
--- what the entries need is in the journal before them
+-- a row suits the journal: what each of its entries needs is in the journal before it
 abbrev pub RowSuits : List Entry → Row → Type 0
 RowSuits J (Ok entries) = EachSuits J entries
 RowSuits J (Err reason) = Unit {0}

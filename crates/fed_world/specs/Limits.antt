@@ -3,20 +3,19 @@ use Rattle.std.specs.Prelude.{ℕ, ◌+◌, List, ◌++◌, Bool, true, false, i
 use Rattle.fed_journal.specs.declared.entry.Entry.{Entry}
 use Rattle.fed_journal.specs.declared.entry.Entry.TheVariants.{Begun, ShovelSet}
 use Rattle.fed_journal.specs.Names.{same_text}
-use Rattle.fed_journal.specs.declared.journal.TheConstants.{MAX_ENTRIES, MAX_BYTES}
+use Rattle.fed_journal.specs.Limits.{most_entries, most_bytes, most_links}
 use Rattle.fed_journal.specs.Links.{links_of}
 use Rattle.fed_journal.specs.Sizes.{byte_count}
-use Rattle.fed_world.specs.declared.limits.TheConstants.{MAX_LINKS}
 use Rattle.fed_world.specs.declared.reason.StepFault.{StepFault}
 use Rattle.fed_world.specs.declared.reason.StepFault.TheVariants.{Links, Entries, Bytes}
-use Rattle.fed_world.specs.Row.{Row}
+use Rattle.fed_journal.specs.Row.{Row}
 
 -- the limit that the journal would pass with these entries: first that of links in the configuration then, then that of entries, then that of octets of messages
 abbrev pub limit_of : List Entry → List Entry → Option StepFault
 limit_of J entries =
-    if nat_lt MAX_LINKS (length (links_of (J ++ entries))) then Some Links else
-    if nat_lt MAX_ENTRIES (length J + length entries) then Some Entries else
-    if nat_lt MAX_BYTES (byte_count J + byte_count entries) then Some Bytes else None
+    if nat_lt most_links (length (links_of (J ++ entries))) then Some Links else
+    if nat_lt most_entries (length J + length entries) then Some Entries else
+    if nat_lt most_bytes (byte_count J + byte_count entries) then Some Bytes else None
 
 -- an event that doesn't happen passes none
 abbrev pub limit_passed : List Entry → Row → Option StepFault

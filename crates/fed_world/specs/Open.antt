@@ -10,9 +10,9 @@ use Rattle.fed_journal.specs.Configuration.{is_exclusive}
 use Rattle.fed_journal.specs.Names.{same_text, same_place}
 use Rattle.fed_journal.specs.Phases.{session, phase, is_open}
 use Rattle.fed_journal.specs.Holds.{ready_count}
-use Rattle.fed_world.specs.declared.reason.Reason.TheVariants as why
-use Rattle.fed_world.specs.Declare.{stands, lasting}
-use Rattle.fed_world.specs.Row.{Row, with_link}
+use Rattle.fed_journal.specs.declared.reason.Reason.TheVariants as why
+use Rattle.fed_journal.specs.Declare.{stands, lasting}
+use Rattle.fed_journal.specs.Row.{Row, with_link}
 
 -- the queue's declaration, where it is missing
 abbrev pub made_if : Bool → Place → List ℕ → List Entry

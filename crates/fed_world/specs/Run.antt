@@ -3,7 +3,7 @@ use Rattle.std.specs.Prelude.{◌≡◌, ℕ, List, [], ◌∷◌, map, codes}
 use Rattle.fed_journal.specs.declared.entry.Entry.{Entry}
 use Rattle.fed_journal.specs.declared.entry.Entry.TheVariants.{Begun}
 use Rattle.fed_journal.specs.declared.event.Event.{Event}
-use Rattle.fed_world.specs.Row.{Row}
+use Rattle.fed_journal.specs.Row.{Row}
 use Rattle.fed_world.specs.Step.{next, after}
 
 -- a bare broker: its cluster name is its run name, and its definitions are empty

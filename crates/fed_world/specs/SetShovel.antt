@@ -5,7 +5,7 @@ use Rattle.fed_journal.specs.declared.event.Shovel.{Shovel}
 use Rattle.fed_journal.specs.declared.entry.Entry.{Entry}
 use Rattle.fed_journal.specs.declared.entry.Entry.TheVariants.{ShovelSet}
 use Rattle.fed_journal.specs.Links.{is_shovel_set}
-use Rattle.fed_world.specs.Row.{Row, at_place}
+use Rattle.fed_journal.specs.Row.{Row, at_place}
 
 -- a shovel is set once: the schedule has no line yet that sets it again, and such an event changes nothing
 unfoldable pub set_shovel_row : List Entry → Place → List ℕ → Shovel → Row

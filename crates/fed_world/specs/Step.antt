@@ -5,17 +5,17 @@ use Rattle.fed_journal.specs.declared.event.Event.{Event}
 use Rattle.fed_journal.specs.declared.event.Event.TheVariants.{DeclareQueue, DeclareExchange, Bind, Unbind, Publish, Consume, Cancel, Deliver, Get, Ack, Reject, Requeue, Purge, Close, Flush, SetShovel, Open, Take, Send, Accept, Confirm, Note, Settle, Show}
 use Rattle.fed_world.specs.declared.reason.Outcome.{Outcome}
 use Rattle.fed_world.specs.declared.reason.Outcome.TheVariants.{Done, NotNow}
-use Rattle.fed_world.specs.Row.{Row}
-use Rattle.fed_world.specs.Declare.{declare_row, declare_exchange_row}
-use Rattle.fed_world.specs.Bind.{bind_row, unbind_row}
-use Rattle.fed_world.specs.Publish.{publish_row}
-use Rattle.fed_world.specs.Consume.{consume_row, cancel_row}
-use Rattle.fed_world.specs.Deliver.{deliver_row}
-use Rattle.fed_world.specs.Get.{get_row}
-use Rattle.fed_world.specs.Answer.{ack_row, reject_row, requeue_row}
-use Rattle.fed_world.specs.Purge.{purge_row}
-use Rattle.fed_world.specs.Close.{close_row}
-use Rattle.fed_world.specs.Flush.{flush_row}
+use Rattle.fed_journal.specs.Row.{Row}
+use Rattle.fed_journal.specs.Declare.{declare_row, declare_exchange_row}
+use Rattle.fed_journal.specs.Bind.{bind_row, unbind_row}
+use Rattle.fed_journal.specs.Publish.{publish_row}
+use Rattle.fed_journal.specs.Consume.{consume_row, cancel_row}
+use Rattle.fed_journal.specs.Deliver.{deliver_row}
+use Rattle.fed_journal.specs.Get.{get_row}
+use Rattle.fed_journal.specs.Answer.{ack_row, reject_row, requeue_row}
+use Rattle.fed_journal.specs.Purge.{purge_row}
+use Rattle.fed_journal.specs.Close.{close_row}
+use Rattle.fed_journal.specs.Flush.{flush_row}
 use Rattle.fed_world.specs.SetShovel.{set_shovel_row}
 use Rattle.fed_world.specs.Open.{open_row}
 use Rattle.fed_world.specs.Take.{take_row}

@@ -7,8 +7,8 @@ use Rattle.fed_journal.specs.declared.link.LinkSpec.{LinkSpec}
 use Rattle.fed_journal.specs.Flight.{flight_held}
 use Rattle.fed_journal.specs.Phases.{session}
 use Rattle.fed_journal.specs.Holds.{first_ready}
-use Rattle.fed_world.specs.declared.reason.Reason.TheVariants.{Full}
-use Rattle.fed_world.specs.Row.{Row, with_link, while_open, one_or_empty}
+use Rattle.fed_journal.specs.declared.reason.Reason.TheVariants.{Full}
+use Rattle.fed_journal.specs.Row.{Row, with_link, while_open, one_or_empty}
 
 abbrev pub first_ready_at : List Entry → Option Place → List ℕ → Option ℕ
 first_ready_at J None q = None

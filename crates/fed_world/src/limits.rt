@@ -1,5 +1,6 @@
 //! The limits of a run.
 ghost use Rattle.std.specs.Prelude.{◌≡◌, ◌+◌, ◌≤◌, ◌<◌, ◌++◌, None, IfSome, length, nat_lt, sum_by};
+ghost use Rattle.fed_journal.specs.Limits.{most_links};
 ghost use Rattle.std.specs.List.{list_any};
 ghost use Rattle.fed_journal.specs.Links.{links_of};
 ghost use Rattle.fed_world.specs.Limits.{sets_at as entry_sets_at, set_count as count_of_set, links_begun as links_begun_by, changes_links as entry_changes_links};
@@ -29,10 +30,10 @@ fn set_count(entries: &[Entry], broker: &Text) -> usize
 
 /// So many links and those of the broker, unless they are too many.
 fn with_links_of(before: &[Entry], entries: &[Entry], broker: &Text, count: usize) -> Option<usize>
-    requires { count ≤ MAX_LINKS }
+    requires { count ≤ most_links }
     ensures some { IfSome result (λ all. all ≡ count + count_of_set (before.now ++ entries.now) broker.now) }
-    ensures few { IfSome result (λ all. all ≤ MAX_LINKS) }
-    ensures none { result ≡ None → MAX_LINKS < count + count_of_set (before.now ++ entries.now) broker.now }
+    ensures few { IfSome result (λ all. all ≤ most_links) }
+    ensures none { result ≡ None → most_links < count + count_of_set (before.now ++ entries.now) broker.now }
 {
     let old = set_count(before, broker);
     if old > MAX_LINKS - count {
@@ -52,10 +53,10 @@ fn with_links_begun(
     entry: &Entry,
     count: usize,
 ) -> Option<usize>
-    requires { count ≤ MAX_LINKS }
+    requires { count ≤ most_links }
     ensures some { IfSome result (λ all. all ≡ count + links_begun_by (before.now ++ entries.now) entry.now) }
-    ensures few { IfSome result (λ all. all ≤ MAX_LINKS) }
-    ensures none { result ≡ None → MAX_LINKS < count + links_begun_by (before.now ++ entries.now) entry.now }
+    ensures few { IfSome result (λ all. all ≤ most_links) }
+    ensures none { result ≡ None → most_links < count + links_begun_by (before.now ++ entries.now) entry.now }
 {
     match entry {
         Entry::Begun { broker, .. } => match with_links_of(before, entries, broker, count) {
@@ -68,10 +69,10 @@ fn with_links_begun(
 
 /// So many links and those of the brokers that begin in a part of the journal, unless they are too many.
 fn with_links_in(part: &[Entry], before: &[Entry], entries: &[Entry], count: usize) -> Option<usize>
-    requires { count ≤ MAX_LINKS }
+    requires { count ≤ most_links }
     ensures some { IfSome result (λ all. all ≡ count + sum_by (links_begun_by (before.now ++ entries.now)) part.now) }
-    ensures few { IfSome result (λ all. all ≤ MAX_LINKS) }
-    ensures none { result ≡ None → MAX_LINKS < count + sum_by (links_begun_by (before.now ++ entries.now)) part.now }
+    ensures few { IfSome result (λ all. all ≤ most_links) }
+    ensures none { result ≡ None → most_links < count + sum_by (links_begun_by (before.now ++ entries.now)) part.now }
 {
     let mut all = count;
     for entry in part {
@@ -99,8 +100,8 @@ fn change_links(entries: &[Entry]) -> bool
 
 /// Whether the configuration asks for too many links after these entries.
 pub(crate) fn passes_links(before: &[Entry], entries: &[Entry]) -> bool
-    requires { length (links_of before.now) ≤ MAX_LINKS }
-    ensures { result ≡ nat_lt MAX_LINKS (length (links_of (before.now ++ entries.now))) }
+    requires { length (links_of before.now) ≤ most_links }
+    ensures { result ≡ nat_lt most_links (length (links_of (before.now ++ entries.now))) }
 {
     if !change_links(entries) {
         return false;

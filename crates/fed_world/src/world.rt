@@ -5,7 +5,7 @@ ghost use Rattle.broker_view.specs.Suits.{EachSuits};
 ghost use Rattle.fed_journal.specs.Copies.{IsFitting, publication_count, copy_count};
 ghost use Rattle.fed_journal.specs.Events.{IsWritable};
 ghost use Rattle.fed_journal.specs.Sizes.{IsSized, entry_bytes, byte_count};
-ghost use Rattle.fed_journal.specs.declared.journal.TheConstants.{MAX_BYTES};
+ghost use Rattle.fed_journal.specs.Limits.{most_entries, most_bytes};
 ghost use Rattle.fed_world.specs.RowOf.{row_of};
 ghost use Rattle.fed_world.specs.Step.{next, is_declaring, is_consuming, is_answering, after, outcome_of};
 ghost use Rattle.fed_world.specs.Limits.{limit_of, limit_passed};
@@ -205,7 +205,7 @@ fn next(alloc: Global, run: &Run<'_>, numbers: Numbers, event: &Event) -> Result
 #[tactic(auto, unfolding(fed_journal::specs::Sizes::byte_count))]
 fn bytes_of(entries: &[Entry]) -> usize
     requires sized { All IsSized entries.now }
-    requires few { length entries.now ≤ MAX_ENTRIES }
+    requires few { length entries.now ≤ most_entries }
     ensures { result ≡ byte_count entries.now }
 {
     let mut bytes = 0;
@@ -231,7 +231,7 @@ fn bytes_of_entry(entry: &Entry) -> usize
 fn append(journal: &mut Journal, entries: Vec<Entry>)
     requires sized { All IsSized entries.items }
     requires room { length entries.items ≤ journal.old.room }
-    requires bytes { byte_count journal.old.entries + byte_count entries.items ≤ MAX_BYTES }
+    requires bytes { byte_count journal.old.entries + byte_count entries.items ≤ most_bytes }
     ensures { journal.new.entries ≡ journal.old.entries ++ entries.items }
 {
     for entry in entries {

@@ -4,11 +4,11 @@ use Rattle.std.specs.Fmt.{decimal}
 use Rattle.fed_journal.specs.declared.entry.Entry.{Entry}
 use Rattle.fed_journal.specs.declared.event.Event.{Event}
 use Rattle.fed_journal.specs.declared.event.Event.TheVariants.{Show}
-use Rattle.fed_world.specs.declared.reason.Reason.{Reason}
-use Rattle.fed_world.specs.declared.reason.Reason.TheVariants.{NoPlace, NoLink, NoBroker, NameTooLong, NoSource, Full, Live, NotOpen, Empty, Unsecured, NoConsumer, Busy, NotHeld, Refused}
+use Rattle.fed_journal.specs.declared.reason.Reason.{Reason}
+use Rattle.fed_journal.specs.declared.reason.Reason.TheVariants.{NoPlace, NoLink, NoBroker, NameTooLong, NoSource, Full, Live, NotOpen, Empty, Unsecured, NoConsumer, Busy, NotHeld, Refused}
 use Rattle.fed_world.specs.declared.reason.StepFault.{StepFault}
 use Rattle.fed_world.specs.Limits.{limit_passed}
-use Rattle.fed_world.specs.Row.{Row}
+use Rattle.fed_journal.specs.Row.{Row}
 use Rattle.fed_world.specs.Run.{Moment, run}
 use Rattle.fed_status.specs.Listing.{listing}
 use Rattle.fed_world.specs.declared.reason.StepFault.TheVariants as faults
@@ -93,6 +93,11 @@ unfoldable pub report : List Entry → List (ℕ × Event) → List ℕ
 report J events = report_of J (length events) (run J events)
 
 -- ---- a report that may get too long
+
+-- a piece of an output: its text, or nothing where no output has room for it
+abbrev pub IsPiece : Option (List ℕ) → List ℕ → Type 0
+IsPiece None text = 67108864 < length text
+IsPiece (Some piece) text = piece ≡ text
 
 -- an output with a piece more; none once it is too long
 abbrev pub joined : Option (List ℕ) → List ℕ → Option (List ℕ)

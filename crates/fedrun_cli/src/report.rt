@@ -1,19 +1,21 @@
 //! The report of a run.
-ghost use Rattle.std.specs.Prelude.{◌≡◌, ◌≢◌, ◌≤◌, ◌++◌, List, [], Option, Some, None, All, IfOk, IfErr, OnOk, length, sum_by};
+ghost use Rattle.std.specs.Prelude.{◌≡◌, ◌≢◌, ◌<◌, ◌≤◌, ◌++◌, ℕ, List, [], Option, Some, None, Err, All, IfOk, IfErr, OnOk, length, sum_by};
 ghost use Rattle.fed_journal.specs.declared.entry.Entry.{Entry};
 ghost use Rattle.fed_world.specs.declared.reason.StepFault.{StepFault as SpecFault};
 ghost use Rattle.fed_journal.specs.Events.{IsWritable};
 ghost use Rattle.fed_world.specs.Limits.{limit_passed};
 ghost use Rattle.fed_world.specs.Step.{next, after, outcome_of};
 ghost use Rattle.fed_world.specs.Run.{begin, run, moment};
-ghost use Rattle.fedrun_cli.specs.Report.{reason_word, not_now_line, show_lines, shown, moment_text, done_by, done_at, last_journal, joined, told_run, limit_or, first_limit, Stops, summary_line, end_text, ended, JoinEnds, report, ReportEnds};
+ghost use Rattle.fedrun_cli.specs.Report.{IsPiece, reason_word, not_now_line, show_lines, shown, moment_text, done_by, done_at, last_journal, joined, told_run, limit_or, first_limit, Stops, summary_line, end_text, ended, JoinEnds, report, ReportEnds};
 
 use crate::ending::{Ending, RunLimit};
 use amqp_props::Text;
 use fed_journal::event::Event;
 use fed_journal::page::Page;
+use fed_journal::reason::Reason;
+use fed_status::fault::TextFault;
 use fed_status::listing::push_listing;
-use fed_world::reason::{Outcome, Reason, StepFault};
+use fed_world::reason::{Outcome, StepFault};
 use fed_world::world::World;
 use std::alloc::{AllocError, Global};
 
@@ -59,8 +61,9 @@ fn push_not_now(page: &mut Page, line: u32, reason: Reason) -> Result<(), AllocE
 
 /// Appends the listing in the midst of a run.
 #[tactic(auto, unfolding(crate::specs::Report::show_lines))]
-fn push_show(alloc: Global, page: &mut Page, line: u32, world: &World) -> Result<(), AllocError>
-    ensures { OnOk result (page.new ≡ page.old ++ show_lines line world.now) }
+fn push_show(alloc: Global, page: &mut Page, line: u32, world: &World) -> Result<(), TextFault>
+    ensures lines { OnOk result (page.new ≡ page.old ++ show_lines line world.now) }
+    ensures long { result ≡ Err TextFault.Long → 67108864 < length (page.old ++ show_lines line world.now) }
 {
     page.push("show ")?;
     page.push_number(line as u64)?;
@@ -69,10 +72,13 @@ fn push_show(alloc: Global, page: &mut Page, line: u32, world: &World) -> Result
 }
 
 /// The output with a piece more, unless it gets too long.
-fn joined(output: Option<Page>, piece: &Page) -> Result<Option<Page>, AllocError>
-    ensures { IfOk result (λ more. more ≡ joined output piece.now) }
+fn joined(output: Option<Page>, piece: &Option<Page>) -> Result<Option<Page>, AllocError>
+    ensures { IfOk result (λ more. (text : List ℕ) → IsPiece piece.now text → more ≡ joined output text) }
 {
     let Some(mut page) = output else {
+        return Ok(None);
+    };
+    let Some(piece) = piece else {
         return Ok(None);
     };
     let length = page.as_str().len();
@@ -85,15 +91,18 @@ fn joined(output: Option<Page>, piece: &Page) -> Result<Option<Page>, AllocError
 }
 
 /// What an event that happened prints.
-fn shown(alloc: Global, line: u32, event: &Event, world: &World) -> Result<Page, AllocError>
-    ensures { IfOk result (λ page. page ≡ shown line world.now event.now) }
+fn shown(alloc: Global, line: u32, event: &Event, world: &World) -> Result<Option<Page>, AllocError>
+    ensures { IfOk result (λ page. IsPiece page (shown line world.now event.now)) }
 {
     let mut page = Page::new(alloc);
     match event {
-        Event::Show => push_show(alloc, &mut page, line, world)?,
-        _ => {}
+        Event::Show => match push_show(alloc, &mut page, line, world) {
+            Ok(()) => Ok(Some(page)),
+            Err(TextFault::Long) => Ok(None),
+            Err(TextFault::Memory) => Err(AllocError),
+        },
+        _ => Ok(Some(page)),
     }
-    Ok(page)
 }
 
 /// The line of an event that didn't happen.
@@ -108,7 +117,7 @@ fn not_now(alloc: Global, line: u32, reason: Reason) -> Result<Page, AllocError>
 /// What an event prints, and 1 if it happened, else 0.
 #[derive(Drop)]
 struct Told {
-    page: Page,
+    page: Option<Page>,
     done: usize,
 }
 
@@ -143,7 +152,7 @@ fn telling(
     outcome: Outcome,
 ) -> Result<Told, AllocError>
     ensures page { IfOk result (λ told. (before : List Entry) → outcome ≡ outcome_of (next before event.now) → world.now ≡ after before (next before event.now)
-        → told.page ≡ moment_text (moment before line event.now)) }
+        → IsPiece told.page (moment_text (moment before line event.now))) }
     ensures done { IfOk result (λ told. (before : List Entry) → outcome ≡ outcome_of (next before event.now) → told.done ≡ done_by (next before event.now)) }
     ensures few { IfOk result (λ told. told.done ≤ 1) }
 {
@@ -154,7 +163,10 @@ fn telling(
         }
         Outcome::NotNow(reason) => {
             let page = not_now(alloc, line, reason)?;
-            Ok(Told { page, done: 0 })
+            Ok(Told {
+                page: Some(page),
+                done: 0,
+            })
         }
     }
 }
@@ -162,7 +174,7 @@ fn telling(
 /// Does an event. `Limit` where it would pass a limit.
 fn moment(alloc: Global, world: &mut World, line: u32, event: &Event) -> Result<Told, Ending>
     requires { IsWritable event.now }
-    ensures page { IfOk result (λ told. told.page ≡ moment_text (moment world.old line event.now)) }
+    ensures page { IfOk result (λ told. IsPiece told.page (moment_text (moment world.old line event.now))) }
     ensures done { IfOk result (λ told. told.done ≡ done_by (next world.old event.now)) }
     ensures few { IfOk result (λ told. told.done ≤ 1) }
     ensures world { OnOk result (world.new ≡ after world.old (next world.old event.now)) }
@@ -207,8 +219,8 @@ fn run_events(alloc: Global, world: &mut World, events: &[(u32, Event)]) -> Resu
 }
 
 /// `joined`, where want of memory ends the run.
-fn join(output: Option<Page>, piece: &Page) -> Result<Option<Page>, Ending>
-    ensures joined { IfOk result (λ more. more ≡ joined output piece.now) }
+fn join(output: Option<Page>, piece: &Option<Page>) -> Result<Option<Page>, Ending>
+    ensures joined { IfOk result (λ more. (text : List ℕ) → IsPiece piece.now text → more ≡ joined output text) }
     ensures memory { IfErr result (λ ending. ending ≡ Ending.Memory) }
 {
     match joined(output, piece) {
@@ -239,18 +251,42 @@ fn push_summary(
     page.push("\n")
 }
 
-/// The end of the output: the listing and the summary.
+/// Appends the end of the output: the listing and the summary.
 #[tactic(auto, unfolding(crate::specs::Report::end_text))]
-fn end_page(alloc: Global, world: &World, events: usize, done: usize) -> Result<Page, AllocError>
+fn push_end(
+    alloc: Global,
+    page: &mut Page,
+    world: &World,
+    events: usize,
+    done: usize,
+) -> Result<(), TextFault>
     requires { done ≤ events }
-    ensures { IfOk result (λ page. page ≡ end_text world.now events done) }
+    ensures text { OnOk result (page.new ≡ page.old ++ end_text world.now events done) }
+    ensures long { result ≡ Err TextFault.Long → 67108864 < length (page.old ++ end_text world.now events done) }
 {
-    let mut page = Page::new(alloc);
     page.push("end\n")?;
     let entries = world.journal().entries();
-    push_listing(alloc, entries, &mut page)?;
-    push_summary(&mut page, events, done, entries.len())?;
-    Ok(page)
+    push_listing(alloc, entries, page)?;
+    push_summary(page, events, done, entries.len())?;
+    Ok(())
+}
+
+/// The end of the output.
+fn end_page(
+    alloc: Global,
+    world: &World,
+    events: usize,
+    done: usize,
+) -> Result<Option<Page>, AllocError>
+    requires { done ≤ events }
+    ensures { IfOk result (λ page. IsPiece page (end_text world.now events done)) }
+{
+    let mut page = Page::new(alloc);
+    match push_end(alloc, &mut page, world, events, done) {
+        Ok(()) => Ok(Some(page)),
+        Err(TextFault::Long) => Ok(None),
+        Err(TextFault::Memory) => Err(AllocError),
+    }
 }
 
 /// The output of a run of these bare brokers and its end, joined piece by piece.

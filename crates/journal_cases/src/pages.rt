@@ -5,7 +5,6 @@ use anyhow::{Result, bail};
 use fed_journal::message::{is_persistent, message_bytes, properties};
 use fed_journal::page::{Page, shovel_link_name};
 use fed_journal::place::Place;
-use fed_journal::text::begins_with;
 use std::alloc::{AllocError, Global};
 
 /// A message with this body, persistent or not.
@@ -54,9 +53,6 @@ fn print_call(rt: &(impl Print + AllocGlobal), text: &str) -> Result<()> {
         let message = message(alloc, line.word(0)? == "persistent", line.word(1)?)?;
         let persistent = is_persistent(&message);
         println!(rt; "{text}: persistent {persistent}")?;
-    } else if line.call == "begins" {
-        let begins = begins_with(&line.text(alloc, 0)?, line.word(1)?.as_bytes());
-        println!(rt; "{text}: {begins}")?;
     } else if line.call == "link" {
         let name = shovel_link_name(alloc, &place(alloc, &line)?, &line.text(alloc, 2)?)?;
         println!(rt; "{text}: {}", name.as_str())?;

@@ -3,9 +3,10 @@ ghost use Rattle.fed_schedule.specs.Schedule.{AreWritable};
 
 use crate::ask;
 use anyhow::{Result, bail};
+use fed_journal::reason::Reason;
 use fed_schedule::schedule::read;
 use fed_schedule::script::{MAX_SCHEDULE, Script};
-use fed_world::reason::{Outcome, Reason};
+use fed_world::reason::Outcome;
 use fed_world::world::World;
 use std::alloc::{AllocError, Global};
 

@@ -1,9 +1,9 @@
 //! What stands at a place, and its bindings.
 ghost use Rattle.std.specs.Prelude.{◌≡◌, ◌+◌, ◌<◌, ◌≤◌, ◌^◌, IfOk, OnOk, length};
-ghost use Rattle.fed_journal.specs.declared.journal.TheConstants.{MAX_ENTRIES};
-ghost use Rattle.fed_journal.specs.Routes.{made as made_object, gone as gone_queue, bound as bound_there, unbound as unbound_there, site as site_of_journal, site_step, is_at as is_entry_at};
+ghost use Rattle.fed_journal.specs.Limits.{most_entries};
+ghost use Rattle.fed_journal.specs.Routes.{made as made_object, gone as gone_queue, site as site_of_journal, site_step, is_at as is_entry_at};
 ghost use Rattle.route_core.specs.Objects.{sort_of as sort_of_node};
-ghost use Rattle.route_core.specs.Routing.{IsNext, stands as object_stands};
+ghost use Rattle.route_core.specs.Routing.{IsNext, stands as object_stands, bound as bound_there, unbound as unbound_there};
 ghost use Rattle.fed_journal.specs.SiteLaws.{IsNumbering};
 
 use amqp_props::Text;
@@ -160,7 +160,7 @@ impl Site {
 /// The place after the journal.
 #[tactic(auto, unfolding(fed_journal::specs::Routes::site))]
 pub fn place_after(alloc: Global, journal: &[Entry], place: &Place) -> Result<Site, AllocError>
-    requires { length journal.now ≤ MAX_ENTRIES }
+    requires { length journal.now ≤ most_entries }
     ensures { IfOk result (λ site. site ≡ site_of_journal journal.now place.now) }
 {
     let router = Router::new(alloc)?;

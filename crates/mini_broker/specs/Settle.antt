@@ -26,6 +26,7 @@ holds who copy v = holds_as (number_in who v) copy v.queues
 abbrev pub all_swept : Sweep → VhostState → VhostState
 all_swept sweep v = record v { queues = all_changed (with_mail (swept sweep)) v.queues }
 
+-- the virtual host once the copy that the client of this number holds, if it has one, has left (AMQP 0-9-1, basic.ack)
 abbrev pub left_as : Option ℕ → ℕ → VhostState → VhostState
 left_as None copy v = v
 left_as (Some number) copy v = all_swept (Leave number copy) v

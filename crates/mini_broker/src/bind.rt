@@ -92,7 +92,13 @@ impl Vhost {
 
     /// Why a client is refused the binding, if it is.
     #[tactic(auto, unfolding(crate::specs::Bind::bind_refusal))]
-    fn bind_refusal(&self, who: Client, source: &str, sort: Sort, dest: &str) -> Option<ClientFault>
+    pub fn bind_refusal(
+        &self,
+        who: Client,
+        source: &str,
+        sort: Sort,
+        dest: &str,
+    ) -> Option<ClientFault>
         ensures refusal { result ≡ refusal_of who source.now sort dest.now self.now }
         ensures source { IfNone result (stands_as_end sorts.Exchange source.now self.now ≡ true) }
         ensures dest { IfNone result (stands_as_end sort dest.now self.now ≡ true) }

@@ -57,7 +57,7 @@ fn remove_consumer(consumers: &mut Vec<Consumer>, who: Client, tag: &str)
 
 impl Vhost {
     /// Why a client is refused a queue, if it is.
-    pub(crate) fn queue_refusal(&self, who: Client, name: &str) -> Option<ClientFault>
+    pub fn queue_refusal(&self, who: Client, name: &str) -> Option<ClientFault>
         ensures refusal { result ≡ refusal_by_queue who name.now self.now }
         ensures refused { result ≢ Some ClientFault.Memory }
     {
@@ -72,7 +72,7 @@ impl Vhost {
     }
 
     /// Why a client is refused a consumer, if it is.
-    fn consume_refusal(&self, who: Client, name: &str, tag: &str) -> Option<ClientFault>
+    pub fn consume_refusal(&self, who: Client, name: &str, tag: &str) -> Option<ClientFault>
         ensures refusal { result ≡ refusal_to_consume who name.now tag.now self.now }
         ensures refused { result ≢ Some ClientFault.Memory }
     {

@@ -110,7 +110,7 @@ fn declared_again(
 impl Vhost {
     /// How the declaration of a queue is answered.
     #[tactic(auto, unfolding(crate::specs::Declare::declare_answer))]
-    fn declares_queue(
+    pub fn declares_queue(
         &self,
         who: Client,
         name: &str,
@@ -130,7 +130,7 @@ impl Vhost {
 
     /// How the declaration of an exchange is answered.
     #[tactic(auto, unfolding(crate::specs::Declare::declare_exchange_answer))]
-    fn declares_exchange(&self, name: &str, shape: ExchangeShape) -> Result<bool, ClientFault>
+    pub fn declares_exchange(&self, name: &str, shape: ExchangeShape) -> Result<bool, ClientFault>
         ensures answer { result ≡ declare_exchange_answer name.now shape self.now }
         ensures free { result ≡ Ok true → shape_of name.now self.now.exchanges ≡ None }
         ensures named { result ≡ Ok true → bytes_eq name.now [] ≡ false }

@@ -114,7 +114,7 @@ fn spread(
 
 impl Vhost {
     /// Why a client is refused to publish to the exchange, if it is.
-    fn publish_refusal(&self, exchange: &str) -> Option<ClientFault>
+    pub fn publish_refusal(&self, exchange: &str) -> Option<ClientFault>
         ensures refusal { result ≡ refusal_to_publish exchange.now self.now }
         ensures refused { result ≢ Some ClientFault.Memory }
     {

@@ -1,6 +1,6 @@
 //! The target publishes the message that was sent first.
 ghost use Rattle.std.specs.Prelude.{◌≡◌, ◌+◌, ◌≤◌, IfOk, Some, length};
-ghost use Rattle.fed_journal.specs.declared.journal.TheConstants.{MAX_ENTRIES};
+ghost use Rattle.fed_journal.specs.Limits.{most_entries};
 ghost use Rattle.std.specs.Option.{option_copied};
 ghost use Rattle.fed_journal.specs.Copies.{publication_count, copy_count};
 ghost use Rattle.fed_journal.specs.Outgoing.{outgoing};
@@ -8,7 +8,6 @@ ghost use Rattle.fed_world.specs.Ends.{IsEnd};
 ghost use Rattle.fed_world.specs.RowOf.{row_of};
 ghost use Rattle.fed_world.specs.Accept.{accept_row, accept_first, accepted};
 
-use crate::reason::Reason;
 use crate::row::{Row, link_of, one};
 use crate::rows::publish::published;
 use amqp_props::{Message, Text};
@@ -16,6 +15,7 @@ use broker_view::run::Run;
 use fed_journal::entry::{Entry, Publication, Publisher};
 use fed_journal::journal::Numbers;
 use fed_journal::link::LinkSpec;
+use fed_journal::reason::Reason;
 use journal_scan::copies::publication_of;
 use journal_scan::flight::flight_sent;
 use journal_scan::phases::{is_open, session};
@@ -48,7 +48,7 @@ fn accepted(
 ) -> Result<Row, AllocError>
     requires publication { next.publication ≡ publication_count run.now + 1 }
     requires copy { next.copy ≡ copy_count run.now + 1 }
-    requires within { length run.now ≤ MAX_ENTRIES }
+    requires within { length run.now ≤ most_entries }
     requires target { IsEnd run.now spec.now.target }
     ensures { IfOk result (λ row. row_of row ≡ accepted run.now spec.now copy spec.now.target (option_copied publication.entry)) }
 {
@@ -77,7 +77,7 @@ pub fn accept_row(
 ) -> Result<Row, AllocError>
     requires publication { next.publication ≡ publication_count run.now + 1 }
     requires copy { next.copy ≡ copy_count run.now + 1 }
-    requires within { length run.now ≤ MAX_ENTRIES }
+    requires within { length run.now ≤ most_entries }
     ensures { IfOk result (λ row. row_of row ≡ accept_row run.now link.now) }
 {
     let Some(spec) = link_of(alloc, run, link)? else {

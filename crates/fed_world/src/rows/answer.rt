@@ -1,13 +1,14 @@
 //! A client answers for a copy that it holds.
 ghost use Rattle.std.specs.Prelude.{◌≡◌, IfOk};
 ghost use Rattle.fed_world.specs.RowOf.{row_of};
-ghost use Rattle.fed_world.specs.Answer.{answer_refusal, ack_row, reject_row, requeue_row};
+ghost use Rattle.fed_journal.specs.Answer.{answer_refusal, ack_row, reject_row, requeue_row};
 
-use crate::reason::Reason;
-use crate::row::{Row, channel_of, one};
+use crate::row::{Row, one};
+use broker_view::answers::channel_of;
 use broker_view::run::Run;
 use fed_journal::entry::Entry;
 use fed_journal::place::Place;
+use fed_journal::reason::Reason;
 use std::alloc::{AllocError, Global};
 
 /// Why the client's answer for the copy doesn't happen, if it doesn't.
@@ -24,7 +25,7 @@ fn answer_refusal(run: &Run<'_>, place: &Place, client: u16, copy: u64) -> Optio
 }
 
 /// The row of `ack`.
-#[tactic(auto, unfolding(crate::specs::Answer::ack_row))]
+#[tactic(auto, unfolding(fed_journal::specs::Answer::ack_row))]
 pub fn ack_row(
     alloc: Global,
     run: &Run<'_>,
@@ -50,7 +51,7 @@ pub fn ack_row(
 }
 
 /// The row of `reject`.
-#[tactic(auto, unfolding(crate::specs::Answer::reject_row))]
+#[tactic(auto, unfolding(fed_journal::specs::Answer::reject_row))]
 pub fn reject_row(
     alloc: Global,
     run: &Run<'_>,
@@ -76,7 +77,7 @@ pub fn reject_row(
 }
 
 /// The row of `requeue`.
-#[tactic(auto, unfolding(crate::specs::Answer::requeue_row))]
+#[tactic(auto, unfolding(fed_journal::specs::Answer::requeue_row))]
 pub fn requeue_row(
     alloc: Global,
     run: &Run<'_>,

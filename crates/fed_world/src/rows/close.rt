@@ -2,14 +2,14 @@
 ghost use Rattle.std.specs.Prelude.{◌≡◌, ◌++◌, map, IfOk, OnOk};
 ghost use Rattle.fed_journal.specs.declared.entry.Entry.TheVariants.{GoneQueue};
 ghost use Rattle.fed_world.specs.RowOf.{row_of};
-ghost use Rattle.fed_world.specs.Close.{close_row};
+ghost use Rattle.fed_journal.specs.Close.{close_row};
 
-use crate::reason::Reason;
 use crate::row::Row;
 use amqp_props::Text;
 use broker_view::run::Run;
 use fed_journal::entry::Entry;
 use fed_journal::place::Place;
+use fed_journal::reason::Reason;
 use std::alloc::{AllocError, Global};
 
 /// Appends that these queues are gone.
@@ -25,7 +25,7 @@ fn push_gone(place: &Place, queues: &[Text], entries: &mut Vec<Entry>) -> Result
 }
 
 /// The row of `close`.
-#[tactic(auto, unfolding(crate::specs::Close::close_row))]
+#[tactic(auto, unfolding(fed_journal::specs::Close::close_row))]
 pub fn close_row(
     alloc: Global,
     run: &Run<'_>,

@@ -7,12 +7,12 @@ ghost use Rattle.fed_world.specs.RowOf.{row_of};
 ghost use Rattle.fed_world.specs.Run.{IsReached};
 ghost use Rattle.fed_world.specs.Confirm.{confirm_row, confirm_first};
 
-use crate::reason::Reason;
 use crate::row::{Row, link_of, one};
 use amqp_props::Text;
 use broker_view::run::Run;
 use fed_journal::entry::Entry;
 use fed_journal::place::Place;
+use fed_journal::reason::Reason;
 use journal_scan::phases::{is_open, session};
 use std::alloc::{AllocError, Global};
 

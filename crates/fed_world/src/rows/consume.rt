@@ -2,14 +2,15 @@
 ghost use Rattle.std.specs.Prelude.{◌≡◌, true, IfOk};
 ghost use Rattle.fed_journal.specs.Configuration.{is_place};
 ghost use Rattle.fed_world.specs.RowOf.{row_of};
-ghost use Rattle.fed_world.specs.Consume.{consumes, consume_row, cancel_row};
+ghost use Rattle.fed_journal.specs.Consume.{consumes, consume_row, cancel_row};
 
-use crate::reason::Reason;
-use crate::row::{Row, channel_of, nothing, one, queue_refusal};
+use crate::row::{Row, nothing, one};
 use amqp_props::Text;
+use broker_view::answers::channel_of;
 use broker_view::run::Run;
 use fed_journal::entry::Entry;
 use fed_journal::place::Place;
+use fed_journal::reason::Reason;
 use std::alloc::{AllocError, Global};
 
 /// Whether the tag is in use by the client.
@@ -21,7 +22,7 @@ fn consumes(run: &Run<'_>, place: &Place, client: u16, tag: &Text) -> bool
 }
 
 /// The row of `consume`.
-#[tactic(auto, unfolding(crate::specs::Consume::consume_row))]
+#[tactic(auto, unfolding(fed_journal::specs::Consume::consume_row))]
 pub fn consume_row(
     alloc: Global,
     run: &Run<'_>,
@@ -37,11 +38,8 @@ pub fn consume_row(
     if !run.is_place(place) {
         return Ok(Err(Reason::NoPlace));
     }
-    if let Some(reason) = queue_refusal(run, place, client, queue) {
+    if let Some(reason) = run.consume_refusal(place, client, queue, tag) {
         return Ok(Err(reason));
-    }
-    if consumes(run, place, client, tag) {
-        return Ok(Err(Reason::Refused(530)));
     }
     let place = place.clone()?;
     let queue = queue.clone()?;
@@ -60,7 +58,7 @@ pub fn consume_row(
 }
 
 /// The row of `cancel`.
-#[tactic(auto, unfolding(crate::specs::Consume::cancel_row))]
+#[tactic(auto, unfolding(fed_journal::specs::Consume::cancel_row))]
 pub fn cancel_row(
     alloc: Global,
     run: &Run<'_>,

@@ -2,16 +2,16 @@
 ghost use Rattle.std.specs.Prelude.{◌≡◌, true, IfOk};
 ghost use Rattle.fed_journal.specs.Configuration.{is_place};
 ghost use Rattle.fed_world.specs.RowOf.{row_of};
-ghost use Rattle.fed_world.specs.Declare.{declare_row, owner_by, declared_queue, same_options, lasting, stands, is_broker_name, is_refused, same_kind, same_shape, is_exchange_refused, declared_exchange, declare_exchange_row};
+ghost use Rattle.fed_journal.specs.Declare.{declare_row, lasting, stands, declare_exchange_row};
 
-use crate::reason::Reason;
-use crate::row::{Row, lock_refusal, nothing, one};
-use amqp_props::{ExchangeKind, QueueOptions, Text};
+use crate::row::{Row, nothing, one};
+use amqp_props::{QueueOptions, Text};
+use broker_view::answers::channel_of;
 use broker_view::run::Run;
-use client_rules::is_reserved;
+use client_rules::owner_of;
 use fed_journal::entry::Entry;
 use fed_journal::place::{ExchangeShape, Place};
-use fed_journal::text::begins_with;
+use fed_journal::reason::Reason;
 use std::alloc::{AllocError, Global};
 
 /// The options of a durable queue that is shared and stays.
@@ -29,75 +29,8 @@ pub(crate) fn stands(run: &Run<'_>, place: &Place, queue: &Text) -> bool
     run.queue_options(place, queue).is_some()
 }
 
-/// Whether the name is one of the broker's own, other than a generated one.
-fn is_broker_name(queue: &Text) -> bool
-    ensures { result ≡ is_broker_name queue.now }
-{
-    begins_with(queue, b"amq.") && !begins_with(queue, b"amq.gen-")
-}
-
-/// Whether the broker refuses a client to declare a queue of that name.
-fn is_refused(run: &Run<'_>, place: &Place, queue: &Text) -> bool
-    requires { is_place run.now place.now ≡ true }
-    ensures { result ≡ is_refused run.now place.now queue.now }
-{
-    queue.as_str().is_empty()
-        || is_reserved(queue.as_str())
-        || (is_broker_name(queue) && !stands(run, place, queue))
-}
-
-/// The row of a queue's declaration, by what it was declared with before.
-fn declared_queue(
-    alloc: Global,
-    place: &Place,
-    client: u16,
-    queue: &Text,
-    options: QueueOptions,
-    was: Option<QueueOptions>,
-) -> Result<Row, AllocError>
-    ensures { IfOk result (λ row. row_of row ≡ declared_queue place.now client queue.now options was) }
-{
-    if let Some(was) = was {
-        if same_options(was, options) {
-            return Ok(nothing(alloc));
-        }
-        return Ok(Err(Reason::Refused(406)));
-    }
-    let place = place.clone()?;
-    let queue = queue.clone()?;
-    one(
-        alloc,
-        Entry::MadeQueue {
-            place,
-            queue,
-            options,
-            owner: owner_by(client, options),
-        },
-    )
-}
-
-/// The connection to which a queue of these options belongs, where the client declares it.
-fn owner_by(client: u16, options: QueueOptions) -> Option<u32>
-    ensures { result ≡ owner_by client options }
-{
-    if options.exclusive {
-        Some(u32::from(client))
-    } else {
-        None
-    }
-}
-
-/// Whether two queues are declared alike.
-fn same_options(one: QueueOptions, other: QueueOptions) -> bool
-    ensures { result ≡ same_options one other }
-{
-    one.durable == other.durable
-        && one.exclusive == other.exclusive
-        && one.auto_delete == other.auto_delete
-}
-
 /// The row of a queue's `declare`.
-#[tactic(auto, unfolding(crate::specs::Declare::declare_row))]
+#[tactic(auto, unfolding(fed_journal::specs::Declare::declare_row))]
 pub fn declare_row(
     alloc: Global,
     run: &Run<'_>,
@@ -111,84 +44,23 @@ pub fn declare_row(
     if !run.is_place(place) {
         return Ok(Err(Reason::NoPlace));
     }
-    if is_refused(run, place, queue) {
-        return Ok(Err(Reason::Refused(403)));
+    match run.declares_queue(place, client, queue, options) {
+        Err(reason) => Ok(Err(reason)),
+        Ok(false) => Ok(nothing(alloc)),
+        Ok(true) => one(
+            alloc,
+            Entry::MadeQueue {
+                place: place.clone()?,
+                queue: queue.clone()?,
+                options,
+                owner: owner_of(channel_of(client), options),
+            },
+        ),
     }
-    if let Some(reason) = lock_refusal(run, place, client, queue) {
-        return Ok(Err(reason));
-    }
-    declared_queue(
-        alloc,
-        place,
-        client,
-        queue,
-        options,
-        run.queue_options(place, queue),
-    )
-}
-
-/// Whether two exchanges are of one type.
-fn same_kind(one: ExchangeKind, other: ExchangeKind) -> bool
-    ensures { result ≡ same_kind one other }
-{
-    matches!(
-        (one, other),
-        (ExchangeKind::Direct, ExchangeKind::Direct)
-            | (ExchangeKind::Fanout, ExchangeKind::Fanout)
-            | (ExchangeKind::Headers, ExchangeKind::Headers)
-            | (ExchangeKind::Topic, ExchangeKind::Topic)
-    )
-}
-
-/// Whether two exchanges are declared alike.
-fn same_shape(one: ExchangeShape, other: ExchangeShape) -> bool
-    ensures { result ≡ same_shape one other }
-{
-    same_kind(one.kind, other.kind)
-        && one.durable == other.durable
-        && one.internal == other.internal
-}
-
-/// Whether the broker refuses a client to declare an exchange of that name.
-fn is_exchange_refused(run: &Run<'_>, place: &Place, exchange: &Text) -> bool
-    requires { is_place run.now place.now ≡ true }
-    ensures { result ≡ is_exchange_refused run.now place.now exchange.now }
-{
-    exchange.as_str().is_empty()
-        || is_reserved(exchange.as_str())
-        || (begins_with(exchange, b"amq.") && run.exchange_shape(place, exchange).is_none())
-}
-
-/// The row of an exchange's declaration, by what it was declared as before.
-fn declared_exchange(
-    alloc: Global,
-    place: &Place,
-    exchange: &Text,
-    shape: ExchangeShape,
-    was: Option<ExchangeShape>,
-) -> Result<Row, AllocError>
-    ensures { IfOk result (λ row. row_of row ≡ declared_exchange place.now exchange.now shape was) }
-{
-    if let Some(was) = was {
-        if same_shape(was, shape) {
-            return Ok(nothing(alloc));
-        }
-        return Ok(Err(Reason::Refused(406)));
-    }
-    let place = place.clone()?;
-    let exchange = exchange.clone()?;
-    one(
-        alloc,
-        Entry::MadeExchange {
-            place,
-            exchange,
-            shape,
-        },
-    )
 }
 
 /// The row of an exchange's `declare`.
-#[tactic(auto, unfolding(crate::specs::Declare::declare_exchange_row))]
+#[tactic(auto, unfolding(fed_journal::specs::Declare::declare_exchange_row))]
 pub fn declare_exchange_row(
     alloc: Global,
     run: &Run<'_>,
@@ -201,14 +73,16 @@ pub fn declare_exchange_row(
     if !run.is_place(place) {
         return Ok(Err(Reason::NoPlace));
     }
-    if is_exchange_refused(run, place, exchange) {
-        return Ok(Err(Reason::Refused(403)));
+    match run.declares_exchange(place, exchange, shape) {
+        Err(reason) => Ok(Err(reason)),
+        Ok(false) => Ok(nothing(alloc)),
+        Ok(true) => one(
+            alloc,
+            Entry::MadeExchange {
+                place: place.clone()?,
+                exchange: exchange.clone()?,
+                shape,
+            },
+        ),
     }
-    declared_exchange(
-        alloc,
-        place,
-        exchange,
-        shape,
-        run.exchange_shape(place, exchange),
-    )
 }

@@ -4,15 +4,16 @@ ghost use Rattle.fed_journal.specs.Configuration.{is_place};
 ghost use Rattle.fed_journal.specs.Consumers.{held_count};
 ghost use Rattle.broker_view.specs.Asked.{asked_by};
 ghost use Rattle.fed_world.specs.RowOf.{row_of};
-ghost use Rattle.fed_world.specs.Row.{channel_of};
-ghost use Rattle.fed_world.specs.Deliver.{deliver_to, deliver_row};
+ghost use Rattle.fed_journal.specs.Row.{channel_of};
+ghost use Rattle.fed_journal.specs.Deliver.{deliver_to, deliver_row};
 
-use crate::reason::Reason;
-use crate::row::{Row, channel_of, one};
+use crate::row::{Row, one};
 use amqp_props::Text;
+use broker_view::answers::channel_of;
 use broker_view::run::{Run, Subscription};
 use fed_journal::entry::Entry;
 use fed_journal::place::Place;
+use fed_journal::reason::Reason;
 use std::alloc::{AllocError, Global};
 
 /// Whether the consumer holds as many unacknowledged copies as it asked for.
@@ -60,7 +61,7 @@ fn deliver_to(
 }
 
 /// The row of `deliver`.
-#[tactic(auto, unfolding(crate::specs::Deliver::deliver_row))]
+#[tactic(auto, unfolding(fed_journal::specs::Deliver::deliver_row))]
 pub fn deliver_row(
     alloc: Global,
     run: &Run<'_>,

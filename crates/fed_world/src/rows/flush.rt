@@ -1,17 +1,17 @@
 //! A broker stores what it holds.
 ghost use Rattle.std.specs.Prelude.{◌≡◌, IfOk};
 ghost use Rattle.fed_world.specs.RowOf.{row_of};
-ghost use Rattle.fed_world.specs.Flush.{flush_row};
+ghost use Rattle.fed_journal.specs.Flush.{flush_row};
 
-use crate::reason::Reason;
 use crate::row::{Row, one};
 use amqp_props::Text;
 use broker_view::run::Run;
 use fed_journal::entry::Entry;
+use fed_journal::reason::Reason;
 use std::alloc::{AllocError, Global};
 
 /// The row of `flush`.
-#[tactic(auto, unfolding(crate::specs::Flush::flush_row))]
+#[tactic(auto, unfolding(fed_journal::specs::Flush::flush_row))]
 pub fn flush_row(alloc: Global, run: &Run<'_>, broker: &Text) -> Result<Row, AllocError>
     ensures { IfOk result (λ row. row_of row ≡ flush_row run.now broker.now) }
 {

@@ -1,18 +1,19 @@
 //! A client asks for a copy.
 ghost use Rattle.std.specs.Prelude.{◌≡◌, IfOk};
 ghost use Rattle.fed_world.specs.RowOf.{row_of};
-ghost use Rattle.fed_world.specs.Get.{get_row};
+ghost use Rattle.fed_journal.specs.Get.{get_row};
 
-use crate::reason::Reason;
-use crate::row::{Row, channel_of, one, queue_refusal};
+use crate::row::{Row, one};
 use amqp_props::Text;
+use broker_view::answers::channel_of;
 use broker_view::run::Run;
 use fed_journal::entry::Entry;
 use fed_journal::place::Place;
+use fed_journal::reason::Reason;
 use std::alloc::{AllocError, Global};
 
 /// The row of `get`.
-#[tactic(auto, unfolding(crate::specs::Get::get_row))]
+#[tactic(auto, unfolding(fed_journal::specs::Get::get_row))]
 pub fn get_row(
     alloc: Global,
     run: &Run<'_>,
@@ -26,7 +27,7 @@ pub fn get_row(
     if !run.is_place(place) {
         return Ok(Err(Reason::NoPlace));
     }
-    if let Some(reason) = queue_refusal(run, place, client, queue) {
+    if let Some(reason) = run.queue_refusal(place, client, queue) {
         return Ok(Err(reason));
     }
     match run.first_ready(place, queue) {

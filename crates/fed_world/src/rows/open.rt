@@ -7,7 +7,6 @@ ghost use Rattle.fed_world.specs.RowOf.{row_of};
 ghost use Rattle.fed_world.specs.Sound.{IsSound};
 ghost use Rattle.fed_world.specs.Open.{open_row, open_if_startable, is_source_locked, opened, made_if, is_target_missing};
 
-use crate::reason::Reason;
 use crate::row::{Row, link_of};
 use crate::rows::declare::{LASTING, stands};
 use amqp_props::Text;
@@ -15,6 +14,7 @@ use broker_view::run::Run;
 use fed_journal::entry::Entry;
 use fed_journal::link::{LinkSpec, StartState};
 use fed_journal::place::Place;
+use fed_journal::reason::Reason;
 use journal_scan::phases::{is_open, session};
 use std::alloc::{AllocError, Global};
 

@@ -3,18 +3,18 @@ ghost use Rattle.std.specs.Prelude.{◌≡◌, ◌+◌, ◌≤◌, true, IfOk, L
 ghost use Rattle.fed_journal.specs.Configuration.{is_place};
 ghost use Rattle.fed_journal.specs.Copies.{publication_count, copy_count};
 ghost use Rattle.fed_journal.specs.declared.entry.Entry.{Entry};
-ghost use Rattle.fed_journal.specs.declared.journal.TheConstants.{MAX_ENTRIES};
+ghost use Rattle.fed_journal.specs.Limits.{most_entries};
 ghost use Rattle.fed_world.specs.RowOf.{row_of};
-ghost use Rattle.fed_world.specs.Publish.{publish_row, publish_refusal, shape_refusal, published, first_copy};
+ghost use Rattle.fed_journal.specs.Publish.{publish_row, published, first_copy};
 
-use crate::reason::Reason;
-use crate::row::{Row, channel_of, one};
-use amqp_props::{Message, Text};
+use crate::row::{Row, one};
+use amqp_props::Message;
+use broker_view::answers::channel_of;
 use broker_view::run::Run;
-use client_rules::is_reserved;
 use fed_journal::entry::{Entry, Publication, Publisher};
 use fed_journal::journal::Numbers;
-use fed_journal::place::{ExchangeShape, Place};
+use fed_journal::place::Place;
+use fed_journal::reason::Reason;
 use fed_journal::text::Names;
 use std::alloc::{AllocError, Global};
 
@@ -40,7 +40,7 @@ pub(crate) fn published(
 ) -> Result<Entry, AllocError>
     requires publication { next.publication ≡ publication_count run.now + 1 }
     requires copy { next.copy ≡ copy_count run.now + 1 }
-    requires within { length run.now ≤ MAX_ENTRIES }
+    requires within { length run.now ≤ most_entries }
     requires place { is_place run.now place.now ≡ true }
     ensures { IfOk result (λ entry. entry ≡ published run.now place.now by message) }
 {
@@ -58,38 +58,8 @@ pub(crate) fn published(
     }))
 }
 
-/// Why a client can't publish to an exchange of that shape, if it can't.
-fn shape_refusal(shape: Option<ExchangeShape>) -> Option<Reason>
-    ensures { result ≡ shape_refusal shape }
-{
-    match shape {
-        None => Some(Reason::Refused(404)),
-        Some(shape) => {
-            if shape.internal {
-                Some(Reason::Refused(403))
-            } else {
-                None
-            }
-        }
-    }
-}
-
-/// Why a client can't publish to the exchange, if it can't.
-fn publish_refusal(run: &Run<'_>, place: &Place, exchange: &Text) -> Option<Reason>
-    requires { is_place run.now place.now ≡ true }
-    ensures { result ≡ publish_refusal run.now place.now exchange.now }
-{
-    if is_reserved(exchange.as_str()) {
-        Some(Reason::Refused(403))
-    } else if exchange.as_str().is_empty() {
-        None
-    } else {
-        shape_refusal(run.exchange_shape(place, exchange))
-    }
-}
-
 /// The row of a client's `publish`.
-#[tactic(auto, unfolding(crate::specs::Publish::publish_row))]
+#[tactic(auto, unfolding(fed_journal::specs::Publish::publish_row))]
 pub fn publish_row(
     alloc: Global,
     run: &Run<'_>,
@@ -100,13 +70,13 @@ pub fn publish_row(
 ) -> Result<Row, AllocError>
     requires publication { next.publication ≡ publication_count run.now + 1 }
     requires copy { next.copy ≡ copy_count run.now + 1 }
-    requires within { length run.now ≤ MAX_ENTRIES }
+    requires within { length run.now ≤ most_entries }
     ensures { IfOk result (λ row. row_of row ≡ publish_row run.now place.now client message.now) }
 {
     if !run.is_place(place) {
         return Ok(Err(Reason::NoPlace));
     }
-    if let Some(reason) = publish_refusal(run, place, &message.exchange) {
+    if let Some(reason) = run.publish_refusal(place, &message.exchange) {
         return Ok(Err(reason));
     }
     let message = message.clone()?;

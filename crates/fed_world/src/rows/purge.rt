@@ -1,18 +1,18 @@
 //! A client empties a queue of its ready copies.
 ghost use Rattle.std.specs.Prelude.{◌≡◌, IfOk};
 ghost use Rattle.fed_world.specs.RowOf.{row_of};
-ghost use Rattle.fed_world.specs.Purge.{purge_row};
+ghost use Rattle.fed_journal.specs.Purge.{purge_row};
 
-use crate::reason::Reason;
-use crate::row::{Row, one, queue_refusal};
+use crate::row::{Row, one};
 use amqp_props::Text;
 use broker_view::run::Run;
 use fed_journal::entry::Entry;
 use fed_journal::place::Place;
+use fed_journal::reason::Reason;
 use std::alloc::{AllocError, Global};
 
 /// The row of `purge`.
-#[tactic(auto, unfolding(crate::specs::Purge::purge_row))]
+#[tactic(auto, unfolding(fed_journal::specs::Purge::purge_row))]
 pub fn purge_row(
     alloc: Global,
     run: &Run<'_>,
@@ -25,7 +25,7 @@ pub fn purge_row(
     if !run.is_place(place) {
         return Ok(Err(Reason::NoPlace));
     }
-    if let Some(reason) = queue_refusal(run, place, client, queue) {
+    if let Some(reason) = run.queue_refusal(place, client, queue) {
         return Ok(Err(reason));
     }
     let place = place.clone()?;

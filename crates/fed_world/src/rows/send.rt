@@ -3,11 +3,11 @@ ghost use Rattle.std.specs.Prelude.{◌≡◌, IfOk};
 ghost use Rattle.fed_world.specs.RowOf.{row_of};
 ghost use Rattle.fed_world.specs.Send.{send_row};
 
-use crate::reason::Reason;
 use crate::row::{Row, one};
 use amqp_props::Text;
 use broker_view::run::Run;
 use fed_journal::entry::Entry;
+use fed_journal::reason::Reason;
 use journal_scan::flight::flight_took;
 use journal_scan::links::link_of;
 use journal_scan::phases::{is_open, session};

@@ -3,13 +3,13 @@ ghost use Rattle.std.specs.Prelude.{◌≡◌, IfOk};
 ghost use Rattle.fed_world.specs.RowOf.{row_of};
 ghost use Rattle.fed_world.specs.SetShovel.{set_shovel_row};
 
-use crate::reason::Reason;
 use crate::row::{Row, nothing, one};
 use amqp_props::Text;
 use broker_view::run::Run;
 use fed_journal::entry::Entry;
 use fed_journal::event::Shovel;
 use fed_journal::place::Place;
+use fed_journal::reason::Reason;
 use journal_scan::links::is_shovel_set;
 use std::alloc::{AllocError, Global};
 

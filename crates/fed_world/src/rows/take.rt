@@ -4,13 +4,13 @@ ghost use Rattle.fed_world.specs.Ends.{IsEnd};
 ghost use Rattle.fed_world.specs.RowOf.{row_of};
 ghost use Rattle.fed_world.specs.Take.{take_row, is_full, first_ready_at};
 
-use crate::reason::Reason;
 use crate::row::{Row, link_of, one};
 use amqp_props::Text;
 use broker_view::run::Run;
 use fed_journal::entry::Entry;
 use fed_journal::link::LinkSpec;
 use fed_journal::place::Place;
+use fed_journal::reason::Reason;
 use journal_scan::flight::flight_held;
 use journal_scan::phases::{is_open, session};
 use std::alloc::{AllocError, Global};

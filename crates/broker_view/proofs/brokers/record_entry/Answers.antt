@@ -10,7 +10,7 @@ returns-in_ok-add_host-in-Begun c = λ J views suits.
     (subst (AreViews (J ++ _ ∷ [])) (sym c.in_ok-add_host-in-Begun.ensures) (begun-step c.in-Begun.broker c.in-Begun.cluster c.in-Begun.kept c.args.hosts.now.items J views (subst (Suits J) c.in-Begun.is suits)))
 
 pub returns-in_ok-record_each-in_default : goal.returns-in_ok-record_each-in_default
-returns-in_ok-record_each-in_default c = recorded-step c.args.link c.args.entry.now c.args.hosts.now.items c.record_each.new.hosts.items (not-begun c.args.entry.now c.in_default.not-Begun) c.in_ok-record_each-in_default.ensures
+returns-in_ok-record_each-in_default c = recorded-step c.args.entry.now c.args.hosts.now.items c.record_each.new.hosts.items (not-begun c.args.entry.now c.in_default.not-Begun) c.in_ok-record_each-in_default.ensures
 
 pub record_each-requires : goal.record_each-requires
 record_each-requires c = record {

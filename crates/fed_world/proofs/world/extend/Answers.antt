@@ -1,7 +1,6 @@
 use Rattle.std.proofs.Common.{◌≡◌, ◌+◌, ◌≤◌, ◌++◌, None, length, subst}
-use Rattle.fed_journal.specs.declared.journal.TheConstants.{MAX_ENTRIES}
+use Rattle.fed_journal.specs.Limits.{most_entries, most_links}
 use Rattle.fed_journal.specs.Links.{links_of}
-use Rattle.fed_world.specs.declared.limits.TheConstants.{MAX_LINKS}
 use Rattle.fed_world.specs.Limits.{limit_of}
 use Rattle.fed_world.proofs.LimitLemmas.{limit-kept}
 use Rattle.fed_world.proofs.SoundLemmas.{IsSound-append, fitting-each, sized-each}
@@ -18,5 +17,5 @@ append-requires-clause-sized c = sized-each _ _ c.requires.fits
 pub returns-clause-sound : goal.returns-clause-sound
 returns-clause-sound c =
     let within : limit_of c.args.journal.now.entries c.args.entries.items ≡ None = subst (λ es. limit_of c.args.journal.now.entries es ≡ None) c.as_slice.ensures.value c.in_ok-make_room.ensures.within in
-    let most : (length (links_of (c.args.journal.now.entries ++ c.args.entries.items)) ≤ MAX_LINKS) × (length c.args.journal.now.entries + length c.args.entries.items ≤ MAX_ENTRIES) = limit-kept c.args.journal.now.entries c.args.entries.items within in
+    let most : (length (links_of (c.args.journal.now.entries ++ c.args.entries.items)) ≤ most_links) × (length c.args.journal.now.entries + length c.args.entries.items ≤ most_entries) = limit-kept c.args.journal.now.entries c.args.entries.items within in
     rw (c.append.ensures, c.make_room.ensures.same) (IsSound-append _ _ c.requires.sound c.requires.fits most.1 most.0)

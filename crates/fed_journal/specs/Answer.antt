@@ -5,9 +5,9 @@ use Rattle.fed_journal.specs.declared.entry.Entry.{Entry}
 use Rattle.fed_journal.specs.declared.entry.Entry.TheVariants.{Acked, Rejected, Requeued}
 use Rattle.fed_journal.specs.Configuration.{is_place}
 use Rattle.fed_journal.specs.Holds.{is_held_by}
-use Rattle.fed_world.specs.declared.reason.Reason.{Reason}
-use Rattle.fed_world.specs.declared.reason.Reason.TheVariants.{NoPlace, NotHeld}
-use Rattle.fed_world.specs.Row.{Row, unless_refused, channel_of}
+use Rattle.fed_journal.specs.declared.reason.Reason.{Reason}
+use Rattle.fed_journal.specs.declared.reason.Reason.TheVariants.{NoPlace, NotHeld}
+use Rattle.fed_journal.specs.Row.{Row, unless_refused, channel_of}
 
 -- the place isn't one of the run, or the client doesn't hold the copy
 abbrev pub answer_refusal : List Entry → Place → ℕ → ℕ → Option Reason

@@ -7,16 +7,11 @@ use Rattle.fed_journal.specs.declared.place.Place.{Place}
 use Rattle.fed_journal.specs.declared.entry.Entry.{Entry}
 use Rattle.fed_journal.specs.declared.entry.Entry.TheVariants.{Bound, Unbound}
 use Rattle.fed_journal.specs.Configuration.{queue_options, exchange_shape}
-use Rattle.fed_journal.specs.Names.{same_text}
-use Rattle.client_rules.specs.Names.{is_reserved}
+use Rattle.client_rules.specs.Names.{is_unbindable}
 use Rattle.fed_journal.specs.Routes.{is_bound}
-use Rattle.fed_world.specs.declared.reason.Reason.{Reason}
-use Rattle.fed_world.specs.declared.reason.Reason.TheVariants.{Refused}
-use Rattle.fed_world.specs.Row.{Row, at_place, lock_refusal, unless_refused}
-
--- the default exchange can't be bound (AMQP 0-9-1, 3.1.3.1), nor what belongs to links
-abbrev pub is_unbindable : List ℕ → Bool
-is_unbindable name = same_text name [] || is_reserved name
+use Rattle.fed_journal.specs.declared.reason.Reason.{Reason}
+use Rattle.fed_journal.specs.declared.reason.Reason.TheVariants.{Refused}
+use Rattle.fed_journal.specs.Row.{Row, at_place, lock_refusal, unless_refused}
 
 abbrev pub stands_as : List Entry → Place → Sort → List ℕ → Bool
 stands_as J p Queue name = is_some (queue_options J p name)

@@ -4,7 +4,7 @@ use Rattle.fed_journal.specs.declared.place.Place.{Place}
 use Rattle.fed_journal.specs.declared.entry.Entry.{Entry}
 use Rattle.fed_journal.specs.declared.entry.Entry.TheVariants.{Delivered}
 use Rattle.fed_journal.specs.Holds.{first_ready}
-use Rattle.fed_world.specs.Row.{Row, at_place, with_queue, channel_of, one_or_empty}
+use Rattle.fed_journal.specs.Row.{Row, at_place, with_queue, channel_of, one_or_empty}
 
 -- the queue hands out its first ready copy under no consumer's tag
 abbrev pub got : Place → ℕ → List ℕ → Bool → ℕ → Entry

@@ -3,8 +3,8 @@ use Rattle.std.specs.Prelude.{ℕ, List, [], ◌∷◌, if◌then◌else◌, Ok,
 use Rattle.fed_journal.specs.declared.entry.Entry.{Entry}
 use Rattle.fed_journal.specs.declared.entry.Entry.TheVariants.{Flushed}
 use Rattle.fed_journal.specs.Configuration.{is_broker}
-use Rattle.fed_world.specs.declared.reason.Reason.TheVariants.{NoPlace}
-use Rattle.fed_world.specs.Row.{Row}
+use Rattle.fed_journal.specs.declared.reason.Reason.TheVariants.{NoPlace}
+use Rattle.fed_journal.specs.Row.{Row}
 
 unfoldable pub flush_row : List Entry → List ℕ → Row
 flush_row J b = if is_broker J b then Ok (Flushed b ∷ []) else Err NoPlace

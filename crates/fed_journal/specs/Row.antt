@@ -1,5 +1,5 @@
 -- What an event appends to the journal, or why it doesn't happen now.
-use Rattle.std.specs.Prelude.{ℕ, List, [], ◌∷◌, if◌then◌else◌, Option, Some, None, is_some, Result, Ok, Err, slice_get}
+use Rattle.std.specs.Prelude.{ℕ, Bool, true, false, List, [], ◌∷◌, if◌then◌else◌, Option, Some, None, is_some, Result, Ok, Err, slice_get}
 use Rattle.fed_journal.specs.declared.place.Place.{Place}
 use Rattle.client_rules.specs.declared.client.Client.{Client}
 use Rattle.fed_journal.specs.declared.link.LinkSpec.{LinkSpec}
@@ -8,10 +8,10 @@ use Rattle.fed_journal.specs.Configuration.{is_place, queue_options, is_locked}
 use Rattle.client_rules.specs.Names.{is_reserved}
 use Rattle.fed_journal.specs.Links.{link_of}
 use Rattle.fed_journal.specs.Phases.{phase, is_open}
-use Rattle.fed_world.specs.declared.reason.Reason.{Reason}
-use Rattle.fed_world.specs.declared.reason.Reason.TheVariants.{NoPlace, NoLink, NotOpen, Empty, Refused}
+use Rattle.fed_journal.specs.declared.reason.Reason.{Reason}
+use Rattle.fed_journal.specs.declared.reason.Reason.TheVariants.{NoPlace, NoLink, NotOpen, Empty, Refused}
 
--- the entries, or the reason
+-- what the rule of an event answers, a row of the table of rules: the entries that are appended, or the reason why it doesn't happen now
 abbrev pub Row : Type 0
 Row = Result (List Entry) Reason
 
@@ -37,9 +37,16 @@ queue_refusal J p client q =
     if is_reserved q then Some (Refused 403) else
     if is_some (queue_options J p q) then lock_refusal J p client q else Some (Refused 404)
 
-abbrev pub unless_refused : Option Reason → Row → Row
+-- an answer that is given unless there is a refusal
+abbrev pub unless_refused : {A : Type 0} → Option Reason → Result A Reason → Result A Reason
 unless_refused None row = row
 unless_refused (Some reason) row = Err reason
+
+-- the row of a call that makes something, which the entry says, or finds it made
+abbrev pub made_row : Entry → Result Bool Reason → Row
+made_row entry (Ok true) = Ok (entry ∷ [])
+made_row entry (Ok false) = Ok []
+made_row entry (Err reason) = Err reason
 
 -- an event of a client with a queue
 abbrev pub with_queue : List Entry → Place → ℕ → List ℕ → Row → Row

@@ -13,9 +13,9 @@ use Rattle.fed_journal.specs.Copies.{publication_count, copy_count}
 use Rattle.fed_journal.specs.Names.{same_text}
 use Rattle.client_rules.specs.Names.{is_reserved}
 use Rattle.fed_journal.specs.Routes.{routes}
-use Rattle.fed_world.specs.declared.reason.Reason.{Reason}
-use Rattle.fed_world.specs.declared.reason.Reason.TheVariants.{Refused}
-use Rattle.fed_world.specs.Row.{Row, at_place, unless_refused, channel_of}
+use Rattle.fed_journal.specs.declared.reason.Reason.{Reason}
+use Rattle.fed_journal.specs.declared.reason.Reason.TheVariants.{Refused}
+use Rattle.fed_journal.specs.Row.{Row, at_place, unless_refused, channel_of}
 
 -- publications and copies are numbered from 1 over the whole run
 abbrev pub first_copy : List Entry → List (List ℕ) → ℕ

@@ -5,8 +5,8 @@ use Rattle.fed_journal.specs.declared.entry.Entry.{Entry}
 use Rattle.fed_journal.specs.declared.entry.Entry.TheVariants.{Delivered}
 use Rattle.fed_journal.specs.Holds.{first_ready}
 use Rattle.fed_journal.specs.Consumers.{Consumer, consumer, held_count}
-use Rattle.fed_world.specs.declared.reason.Reason.TheVariants.{NoConsumer, Busy}
-use Rattle.fed_world.specs.Row.{Row, at_place, channel_of, one_or_empty}
+use Rattle.fed_journal.specs.declared.reason.Reason.TheVariants.{NoConsumer, Busy}
+use Rattle.fed_journal.specs.Row.{Row, at_place, channel_of, one_or_empty}
 
 abbrev pub delivered : Place → ℕ → List ℕ → Consumer → ℕ → Entry
 delivered p client tag consumer c = Delivered p (channel_of client) tag consumer.queue c consumer.no_ack
