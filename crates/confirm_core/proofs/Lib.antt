@@ -1,1 +1,4 @@
+mod NumberLemmas
+mod OpeningLemmas
 mod LeastLemmas
+mod LedgerLemmas

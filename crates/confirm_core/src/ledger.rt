@@ -1,25 +1,43 @@
-ghost use Rattle.std.specs.Prelude.{◌≡◌, false, [], ◌∷◌, ◌++◌, Some, OnOk, OnErr, min, length, ◌==◌};
-ghost use Rattle.std.specs.Option.{option_map_or};
+ghost use Rattle.std.specs.Prelude.{◌≡◌, ◌==◌, ◌<◌, true, false, ℕ, [], ◌∷◌, ◌++◌, map, All, Some, OnOk, OnErr, length};
+ghost use Rattle.std.specs.Ordering.{nat_cmp};
+ghost use Rattle.std.specs.BTreeMap.{get};
 ghost use Rattle.confirm_core.specs.Waits.{is_open, released, all_stored, without, ready_numbers, least};
+ghost use Rattle.confirm_core.specs.Openings.{has, openings_of, released_among};
 
+use crate::openings::Openings;
 use crate::publication::Publication;
 use std::alloc::{AllocError, Global};
+use std::collections::BTreeMap;
 use std::marker::Model;
 
 /// The open publications of a broker, in the order in which they were opened.
 #[derive(Drop)]
 pub struct Ledger {
     alloc: Global,
-    publications: Vec<Publication>,
+    openings: Openings,
+    by_number: BTreeMap<u64, u64>,
+    by_copy: BTreeMap<u64, Vec<u64>>,
+    next_opening: u64,
 }
 
 impl Model for Ledger {
-    ghost use Rattle.std.specs.Prelude.{List};
-    ghost use Rattle.confirm_core.specs.Waits.{Unconfirmed};
+    ghost use Rattle.std.specs.Prelude.{◌≡◌, ◌<◌, ◌↔◌, ℕ, List, All, true, Some, is_some, IfSome};
+    ghost use Rattle.std.specs.Ordering.{nat_cmp};
+    ghost use Rattle.std.specs.BTreeMap.{get};
+    ghost use Rattle.confirm_core.specs.Waits.{Unconfirmed, is_open};
+    ghost use Rattle.confirm_core.specs.Openings.{has, openings_of, unconfirmed};
 
     ghost Value = { List Unconfirmed };
 
-    ghost view = { λ l. l.publications.items };
+    ghost view = { λ l. unconfirmed l.openings };
+
+    // A number leads to its opening and no other, and a copy to each opening that waits for it. An opening may stand
+    // under a copy that it does not wait for, and goes with the copy.
+    ghost invariant = { λ l. All (λ entry. entry.0 < l.next_opening) l.openings
+        × All (λ entry. (n : ℕ) → (get nat_cmp l.by_number n ≡ Some entry.0) ↔ (n ≡ entry.1.number)) l.openings
+        × ((n : ℕ) → is_some (get nat_cmp l.by_number n) ≡ is_open n (unconfirmed l.openings))
+        × ((n : ℕ) → IfSome (get nat_cmp l.by_number n) (λ opening. opening < l.next_opening))
+        × All (λ entry. (copy : ℕ) → has copy entry.1.waits ≡ true → has entry.0 (openings_of copy l.by_copy) ≡ true) l.openings };
 }
 
 impl Ledger {
@@ -29,7 +47,10 @@ impl Ledger {
     {
         Ledger {
             alloc,
-            publications: Vec::new(alloc),
+            openings: Openings::new(alloc),
+            by_number: BTreeMap::new(alloc),
+            by_copy: BTreeMap::new(alloc),
+            next_opening: 0,
         }
     }
 
@@ -37,14 +58,24 @@ impl Ledger {
     ///
     /// # Errors
     ///
-    /// For want of memory; the ledger is then as it was.
+    /// For want of memory, or where 2^64 - 1 publications were opened; the ledger is then as it was.
     pub fn open(&mut self, number: u64, waits: &[u64]) -> Result<(), AllocError>
         requires { is_open number self.old ≡ false }
         ensures ok { OnOk result (self.new ≡ self.old ++ (record { number = number; waits = waits.now }) ∷ []) }
         ensures err { OnErr result (self.new ≡ self.old) }
     {
+        let opening = self.next_opening;
+        if opening == u64::MAX {
+            return Err(AllocError);
+        }
         let publication = Publication::new(self.alloc, number, waits)?;
-        self.publications.push(publication)?;
+        await_copies(self.alloc, &mut self.by_copy, opening, waits)?;
+        self.by_number.insert(number, opening)?;
+        if let Err(refused) = self.openings.insert(opening, publication) {
+            self.by_number.remove(&number);
+            return Err(refused);
+        }
+        self.next_opening = opening + 1;
         Ok(())
     }
 
@@ -52,34 +83,32 @@ impl Ledger {
     pub fn flushed(&mut self)
         ensures { self.new ≡ all_stored self.old }
     {
-        forget_all(&mut self.publications);
+        while let Some((copy, openings)) = self.by_copy.pop_first() {
+            release_all(&mut self.openings, &openings, copy);
+        }
     }
 
     /// The copy was stored, or left its queue in another way than loss, so no publication waits for it any more.
     pub fn left(&mut self, copy: u64)
         ensures { self.new ≡ released copy self.old }
     {
-        release_all(&mut self.publications, copy);
+        if let Some(openings) = self.by_copy.remove(&copy) {
+            release_all(&mut self.openings, &openings, copy);
+        }
     }
 
     /// Whether no publication is open.
     pub fn is_empty(&self) -> bool
         ensures { result ≡ (length self.now == 0) }
     {
-        self.publications.is_empty()
+        self.openings.is_empty()
     }
 
     /// The least number that waits for nothing; None exactly where there is none.
     pub fn next_ready(&self) -> Option<u64>
         ensures { result ≡ least (ready_numbers self.now) }
     {
-        let mut found = None;
-        for publication in &self.publications {
-            if publication.is_ready() {
-                found = lesser(found, publication.number());
-            }
-        }
-        found
+        self.openings.next_ready()
     }
 
     /// Closes the publication, since it is answered; false exactly where it isn't open.
@@ -87,55 +116,54 @@ impl Ledger {
         ensures was_open { result ≡ is_open number self.old }
         ensures closed { self.new ≡ without number self.old }
     {
-        let was_open = is_among(&self.publications, number);
-        remove(&mut self.publications, number);
-        was_open
+        let Some(opening) = self.by_number.remove(&number) else {
+            return false;
+        };
+        self.openings.remove(opening, number);
+        true
     }
 }
 
-/// The lesser of what was found and one more number.
-fn lesser(found: Option<u64>, number: u64) -> Option<u64>
-    ensures { result ≡ Some (option_map_or (min number) found number) }
+/// Puts the opening under each copy that it waits for; what was there stays, also for want of memory.
+fn await_copies(
+    alloc: Global,
+    by_copy: &mut BTreeMap<u64, Vec<u64>>,
+    opening: u64,
+    waits: &[u64],
+) -> Result<(), AllocError>
+    ensures kept { (copy other : ℕ) → has other (openings_of copy by_copy.old) ≡ true → has other (openings_of copy by_copy.new) ≡ true }
+    ensures ok { OnOk result ((copy : ℕ) → has copy waits.now ≡ true → has opening (openings_of copy by_copy.new) ≡ true) }
 {
-    match found {
-        None => Some(number),
-        Some(other) => Some(number.min(other)),
+    for copy in waits {
+        await_copy(alloc, by_copy, opening, *copy)?;
     }
+    Ok(())
 }
 
-/// Whether a publication has the number.
-fn is_among(publications: &[Publication], number: u64) -> bool
-    ensures { result ≡ is_open number publications.now }
+/// Puts the opening under the copy; what was there stays, also for want of memory.
+fn await_copy(
+    alloc: Global,
+    by_copy: &mut BTreeMap<u64, Vec<u64>>,
+    opening: u64,
+    copy: u64,
+) -> Result<(), AllocError>
+    ensures kept { (c other : ℕ) → has other (openings_of c by_copy.old) ≡ true → has other (openings_of c by_copy.new) ≡ true }
+    ensures ok { OnOk result (has opening (openings_of copy by_copy.new) ≡ true) }
 {
-    for publication in publications {
-        if publication.number() == number {
-            return true;
-        }
+    if let Some(openings) = by_copy.get_mut(&copy) {
+        openings.push(opening)?;
+        return Ok(());
     }
-    false
+    let openings = Vec::from_slice(alloc, &[opening])?;
+    by_copy.insert(copy, openings)?;
+    Ok(())
 }
 
-/// Takes the copy from what each publication waits for.
-fn release_all(publications: &mut Vec<Publication>, copy: u64)
-    ensures { publications.new.items ≡ released copy publications.old.items }
+/// None of these openings waits for the copy any more.
+fn release_all(openings: &mut Openings, waiting: &[u64], copy: u64)
+    ensures { openings.new ≡ map (released_among waiting.now copy) openings.old }
 {
-    for publication in publications.iter_mut() {
-        publication.release(copy);
+    for opening in waiting {
+        openings.release(*opening, copy);
     }
-}
-
-/// Takes every copy from what each publication waits for.
-fn forget_all(publications: &mut Vec<Publication>)
-    ensures { publications.new.items ≡ all_stored publications.old.items }
-{
-    for publication in publications.iter_mut() {
-        publication.forget();
-    }
-}
-
-/// Removes the publication with the number.
-fn remove(publications: &mut Vec<Publication>, number: u64)
-    ensures { publications.new.items ≡ without number publications.old.items }
-{
-    publications.retain(|publication| publication.number() != number);
 }

@@ -2,6 +2,8 @@
 #![tactic(auto)]
 
 mod ledger;
+mod numbers;
+mod openings;
 mod publication;
 
 pub use ledger::Ledger;

@@ -1,5 +1,6 @@
-ghost use Rattle.std.specs.Prelude.{◌≡◌, ◌==◌, [], not, filter, IfOk};
+ghost use Rattle.std.specs.Prelude.{◌≡◌, ◌==◌, ◌&&◌, not, filter, IfOk};
 ghost use Rattle.confirm_core.specs.Waits.{waits_for_nothing, without_wait};
+ghost use Rattle.confirm_core.specs.Openings.{is_waiting};
 
 use std::alloc::{AllocError, Global};
 use std::marker::Model;
@@ -44,18 +45,14 @@ impl Publication {
         self.waits.is_empty()
     }
 
-    /// No longer waits for the copy.
-    pub fn release(&mut self, copy: u64)
-        ensures { self.new ≡ without_wait copy self.old }
+    /// No longer waits for the copy; whether it waited until then, and waits for nothing now.
+    pub fn release(&mut self, copy: u64) -> bool
+        ensures released { self.new ≡ without_wait copy self.old }
+        ensures freed { result ≡ (is_waiting self.old && waits_for_nothing self.new) }
     {
+        let waited = !self.is_ready();
         remove(&mut self.waits, copy);
-    }
-
-    /// Waits for nothing any more.
-    pub fn forget(&mut self)
-        ensures { self.new ≡ record self.old { waits = [] } }
-    {
-        self.waits.clear();
+        waited && self.is_ready()
     }
 }
 

@@ -1,6 +1,8 @@
-use Rattle.std.proofs.lemmas.List.Edits.{map_over_more}
-use Rattle.confirm_core.specs.Waits.{without_wait}
+use Rattle.confirm_core.proofs.LedgerLemmas.{released-more, released-none-yet}
 use Rattle.confirm_core.proofs.ledger.release_all.Goals as goal
 
-pub loop-publication-preserved : goal.loop-publication-preserved
-loop-publication-preserved c = rw (c.release.ensures, ← c.publication-item.is) (map_over_more (without_wait c.args.copy) _ _ _ c.publication-item.result c.loop-publication-test.true c.loop-publication.invariant c.publication-item.is)
+pub loop-opening-init : goal.loop-opening-init
+loop-opening-init c = released-none-yet c.args.copy c.args.openings.now
+
+pub loop-opening-preserved : goal.loop-opening-preserved
+loop-opening-preserved c = rw (c.release.ensures, c.loop-opening.invariant) (released-more c.args.waiting.now c.loop-opening.opening-index c.args.copy c.args.openings.now c.loop-opening-test.true)
