@@ -45,13 +45,18 @@ pub(crate) struct Part {
 
 impl Model for Part {
     ghost use Rattle.std.specs.Prelude.{Option, IfSome};
+    ghost use Rattle.std.specs.Coded.{codes};
+    ghost use Rattle.amqp_props.specs.Codes.{coded_pairs};
     ghost use Rattle.amqp_props.specs.ContentHeader.{AreShort};
+    ghost use Rattle.amqp_methods.specs.contracts.method.Method as methods;
     ghost use Rattle.amqp_methods.specs.declared.method.Method.{Method};
     ghost use Rattle.amqp_methods.specs.Methods.{FitArguments};
     ghost use Rattle.amqp_methods.specs.View.{call_of};
     ghost use Rattle.amqp_content.specs.declared.part.Content.{Content};
 
     ghost Value = { Method × Option Content };
+
+    ghost coded = { Prim.hlevel (codes, methods.the_row.coded, coded_pairs) };
 
     ghost view = { λ p. (p.method, p.content) };
 
