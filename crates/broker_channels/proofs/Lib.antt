@@ -1,1 +1,3 @@
+mod ShareLemmas
+mod SpanLemmas
 mod TagLemmas

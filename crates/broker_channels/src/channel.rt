@@ -1,11 +1,19 @@
-ghost use Rattle.std.specs.Prelude.{◌≡◌, ◌==◌, ◌+◌, ◌≤◌, ◌++◌, true, false, Some, None, count_by, IsOk, IfOk, OnOk, OnErr, IsOkUnless, vec_len, vec_capacity};
-ghost use Rattle.std.specs.List.{list_any};
+ghost use Rattle.std.specs.Prelude.{◌≡◌, ◌==◌, ◌+◌, ◌≤◌, ◌<◌, ◌++◌, true, false, Some, None, All, length, take, drop, map, count_by, slice_index_or, IsOk, IfSome, IfOk, OnOk, OnErr, IsOkUnless, vec_len, vec_capacity};
+ghost use Rattle.std.specs.List.{remove};
+ghost use Rattle.std.specs.Option.{option_map_or};
+ghost use Rattle.std.specs.VecDeque.{deque_len, deque_capacity};
+ghost use Rattle.indexmap.specs.IndexMap.{spare};
 ghost use Rattle.broker_channels.specs.declared.delivery.Delivery.{Delivery};
 ghost use Rattle.broker_channels.specs.declared.channel.SettleFault.TheVariants.{Memory};
-ghost use Rattle.broker_channels.specs.Tags.{Rises, opened, with_qos, is_known, with_consumer, with_delivery, is_to, is_pushed, is_full, window_of, has_room, is_outstanding, settled_copies, unsettled};
+ghost use Rattle.broker_channels.specs.Tags.{Rises, opened, with_qos, is_known, with_consumer, with_delivery, is_pushed, is_full, has_room, is_outstanding, settled_copies, unsettled};
+ghost use Rattle.broker_channels.specs.Held.{consumers_of, IsCounted};
 
-use crate::delivery::{Consumer, CopyNo, Delivery};
+use crate::delivery::{CopyNo, Delivery};
+use crate::shares::{self, Share};
+use crate::tags;
+use indexmap::IndexMap;
 use std::alloc::{AllocError, Global};
+use std::collections::VecDeque;
 use std::marker::Model;
 use thiserror::Error;
 
@@ -34,14 +42,18 @@ pub struct Channel {
     last_tag: u64,
     prefetch: u16,
     window: u16,
-    consumers: Vec<Consumer>,
-    unacknowledged: Vec<Delivery>,
+    shares: IndexMap<u32, Share>,
+    deliveries: VecDeque<Delivery>,
+    pushed: usize,
     reserved: bool,
 }
 
 impl Model for Channel {
-    ghost use Rattle.std.specs.Prelude.{◌≡◌, ◌<◌, ◌≤◌, ◌^◌, ◌+◌, true, All, vec_len, vec_capacity};
-    ghost use Rattle.broker_channels.specs.Tags.{Deliveries, Rises};
+    ghost use Rattle.std.specs.Prelude.{◌≡◌, ◌<◌, ◌≤◌, ◌^◌, ◌+◌, true, All, count_by};
+    ghost use Rattle.std.specs.VecDeque.{deque_len, deque_capacity};
+    ghost use Rattle.indexmap.specs.IndexMap.{spare};
+    ghost use Rattle.broker_channels.specs.Tags.{Deliveries, Rises, is_pushed};
+    ghost use Rattle.broker_channels.specs.Held.{consumers_of, IsCounted, HasKnown};
 
     ghost Value = { Deliveries };
 
@@ -49,18 +61,22 @@ impl Model for Channel {
       last_tag = c.last_tag;
       prefetch = c.prefetch;
       window = c.window;
-      consumers = c.consumers.items;
-      unacknowledged = c.unacknowledged.items;
+      consumers = consumers_of c.shares.entries;
+      unacknowledged = c.deliveries.items;
       reserved = c.reserved;
     } };
 
-    // Tags rise up to the last one, and what is reserved has room for one more of each.
-    ghost invariant = { λ c. Rises c.unacknowledged.items
-        × All (λ delivery. delivery.tag ≤ c.last_tag) c.unacknowledged.items
+    // Tags rise up to the last one, the counts are those of the windows, who isn't a consumer has nothing, and what is
+    // reserved has room for one more of each.
+    ghost invariant = { λ c. Rises c.deliveries.items
+        × All (λ delivery. delivery.tag ≤ c.last_tag) c.deliveries.items
+        × All (IsCounted c.deliveries.items) c.shares.entries
+        × (c.pushed ≡ count_by is_pushed c.deliveries.items)
+        × HasKnown (consumers_of c.shares.entries) c.deliveries.items
         × (c.reserved ≡ true
         → (c.last_tag + 1 < 2 ^ 64)
-        × (vec_len c.consumers < vec_capacity c.consumers)
-        × (vec_len c.unacknowledged < vec_capacity c.unacknowledged)) };
+        × (0 < spare c.shares)
+        × (deque_len c.deliveries < deque_capacity c.deliveries)) };
 }
 
 impl Channel {
@@ -72,8 +88,9 @@ impl Channel {
             last_tag: 0,
             prefetch: 0,
             window: 0,
-            consumers: Vec::new(alloc),
-            unacknowledged: Vec::new(alloc),
+            shares: IndexMap::new(alloc),
+            deliveries: VecDeque::new(alloc),
+            pushed: 0,
             reserved: false,
         }
     }
@@ -105,8 +122,8 @@ impl Channel {
         if self.last_tag == u64::MAX {
             return Err(AllocError);
         }
-        self.consumers.reserve(1)?;
-        self.unacknowledged.reserve(1)?;
+        self.shares.reserve(1)?;
+        self.deliveries.reserve(1)?;
         self.reserved = true;
         Ok(())
     }
@@ -123,10 +140,7 @@ impl Channel {
         ensures err { OnErr result (self.new ≡ self.old) }
     {
         self.reserve()?;
-        self.consumers.push_reserved(Consumer {
-            number,
-            window: self.prefetch,
-        });
+        shares::begin(&mut self.shares, number, self.prefetch);
         self.reserved = false;
         Ok(())
     }
@@ -136,10 +150,8 @@ impl Channel {
         requires { is_known consumer self.now ≡ true }
         ensures { result ≡ has_room consumer self.now }
     {
-        let own = count_to(&self.unacknowledged, consumer);
-        let all = count_pushed(&self.unacknowledged);
-        let own_full = is_full(window_of(&self.consumers, consumer), own);
-        let all_full = is_full(self.window, all);
+        let own_full = is_share_full(shares::share_of(&self.shares, consumer));
+        let all_full = is_full(self.window, self.pushed);
         !own_full && !all_full
     }
 
@@ -194,16 +206,24 @@ impl Channel {
         ensures err { OnErr result (self.new ≡ self.old) }
         ensures err_copies { OnErr result (copies.new.items ≡ copies.old.items) }
     {
-        if !is_outstanding(&self.unacknowledged, tag, multiple) {
+        let Some((start, count)) = tags::span(&self.deliveries, tag, multiple) else {
             return Err(SettleFault::BadTag(tag));
-        }
-        append_settled(&self.unacknowledged, tag, multiple, copies)?;
-        remove_settled(&mut self.unacknowledged, tag, multiple);
+        };
+        copies.reserve(count)?;
+        take_out(
+            &mut self.deliveries,
+            &mut self.shares,
+            &mut self.pushed,
+            start,
+            count,
+            copies,
+        );
         Ok(())
     }
 
     /// Gives the copy with the next delivery tag.
     fn give(&mut self, copy: CopyNo, consumer: Option<u32>) -> Result<u64, AllocError>
+        requires { IfSome consumer (λ number. is_known number self.old ≡ true) }
         ensures tag { IfOk result (λ tag. tag ≡ self.old.last_tag + 1) }
         ensures ok { OnOk result (self.new ≡ with_delivery copy consumer self.old) }
         ensures reserved { self.old.reserved ≡ true → IsOk result }
@@ -211,7 +231,8 @@ impl Channel {
     {
         self.reserve()?;
         let tag = self.last_tag + 1;
-        self.unacknowledged.push_reserved(Delivery {
+        shares::count_in(&mut self.shares, &mut self.pushed, consumer);
+        self.deliveries.push_back_reserved(Delivery {
             tag,
             copy,
             consumer,
@@ -229,80 +250,66 @@ fn is_full(window: u16, count: usize) -> bool
     window != 0 && window as usize <= count
 }
 
-/// The window of a consumer, 0 where it isn't there.
-fn window_of(consumers: &[Consumer], number: u32) -> u16
-    ensures { result ≡ window_of number consumers.now }
+/// Whether the window of a consumer is full; false where it isn't there.
+fn is_share_full(share: Option<Share>) -> bool
+    ensures { result ≡ option_map_or (λ share. is_full share.window share.held) share false }
 {
-    for consumer in consumers {
-        if consumer.number == number {
-            return consumer.window;
-        }
-    }
-    0
-}
-
-/// The deliveries that count in the window of a consumer.
-fn count_to(deliveries: &[Delivery], consumer: u32) -> usize
-    ensures { result ≡ count_by (is_to consumer) deliveries.now }
-{
-    deliveries
-        .iter()
-        .filter(|delivery| delivery.is_to(consumer))
-        .count()
-}
-
-/// The deliveries that count in the channel's window.
-fn count_pushed(deliveries: &[Delivery]) -> usize
-    ensures { result ≡ count_by is_pushed deliveries.now }
-{
-    deliveries
-        .iter()
-        .filter(|delivery| delivery.is_pushed())
-        .count()
-}
-
-/// Whether an acknowledgement of the tag is lawful.
-fn is_outstanding(deliveries: &[Delivery], tag: u64, multiple: bool) -> bool
-    ensures { result ≡ is_outstanding tag multiple deliveries.now }
-{
-    if multiple && tag == 0 {
-        true
-    } else {
-        is_given(deliveries, tag)
+    match share {
+        Some(share) => is_full(share.window, share.held),
+        None => false,
     }
 }
 
-/// Whether a delivery has the tag.
-fn is_given(deliveries: &[Delivery], tag: u64) -> bool
-    ensures { result ≡ list_any (λ (delivery : Delivery). delivery.tag == tag) deliveries.now }
-{
-    deliveries.iter().any(|delivery| delivery.tag == tag)
-}
-
-/// Appends the copies that an acknowledgement settles.
-fn append_settled(
-    deliveries: &[Delivery],
-    tag: u64,
-    multiple: bool,
+/// Takes the deliveries out of the channel that stand next to each other, and appends their copies.
+fn take_out(
+    deliveries: &mut VecDeque<Delivery>,
+    shares: &mut IndexMap<u32, Share>,
+    pushed: &mut usize,
+    start: usize,
+    count: usize,
     copies: &mut Vec<CopyNo>,
-) -> Result<(), AllocError>
-    ensures ok { OnOk result (copies.new.items ≡ copies.old.items ++ settled_copies tag multiple deliveries.now) }
-    ensures err { OnErr result (copies.new.items ≡ copies.old.items) }
+)
+    requires within { start + count ≤ length deliveries.old.items }
+    requires room { vec_len copies.old + count ≤ vec_capacity copies.old }
+    requires counted { All (IsCounted deliveries.old.items) shares.old.entries }
+    requires pushed { pushed.old ≡ count_by is_pushed deliveries.old.items }
+    ensures copies { copies.new.items ≡ copies.old.items ++ map (λ (delivery : Delivery). delivery.copy) (take count (drop start deliveries.old.items)) }
+    ensures stay { deliveries.new.items ≡ take start deliveries.old.items ++ drop count (drop start deliveries.old.items) }
+    ensures consumers { consumers_of shares.new.entries ≡ consumers_of shares.old.entries }
+    ensures counted { All (IsCounted deliveries.new.items) shares.new.entries }
+    ensures pushed { pushed.new ≡ count_by is_pushed deliveries.new.items }
+    ensures spare { spare shares.new ≡ spare shares.old }
+    ensures len { deque_len deliveries.new ≤ deque_len deliveries.old }
+    ensures capacity { deque_capacity deliveries.new ≡ deque_capacity deliveries.old }
 {
-    copies.reserve(deliveries.len())?;
-    for delivery in deliveries {
-        if delivery.is_settled(tag, multiple) {
-            copies.push_reserved(delivery.copy);
-        }
+    for _taken in 0..count {
+        let copy = take_one(deliveries, shares, pushed, start);
+        copies.push_reserved(copy);
     }
-    Ok(())
 }
 
-/// Removes the deliveries that an acknowledgement settles.
-fn remove_settled(deliveries: &mut Vec<Delivery>, tag: u64, multiple: bool)
-    ensures items { deliveries.new.items ≡ unsettled tag multiple deliveries.old.items }
-    ensures room { vec_len deliveries.new ≤ vec_len deliveries.old }
-    ensures capacity { vec_capacity deliveries.new ≡ vec_capacity deliveries.old }
+/// Takes one delivery out of the channel, and gives its copy.
+fn take_one(
+    deliveries: &mut VecDeque<Delivery>,
+    shares: &mut IndexMap<u32, Share>,
+    pushed: &mut usize,
+    place: usize,
+) -> CopyNo
+    requires within { place < length deliveries.old.items }
+    requires counted { All (IsCounted deliveries.old.items) shares.old.entries }
+    requires pushed { pushed.old ≡ count_by is_pushed deliveries.old.items }
+    ensures copy { (d : Delivery) → result ≡ (slice_index_or deliveries.old.items place d).copy }
+    ensures stay { deliveries.new.items ≡ remove deliveries.old.items place }
+    ensures consumers { consumers_of shares.new.entries ≡ consumers_of shares.old.entries }
+    ensures counted { All (IsCounted deliveries.new.items) shares.new.entries }
+    ensures pushed { pushed.new ≡ count_by is_pushed deliveries.new.items }
+    ensures spare { spare shares.new ≡ spare shares.old }
+    ensures len { deque_len deliveries.new + 1 ≡ deque_len deliveries.old }
+    ensures capacity { deque_capacity deliveries.new ≡ deque_capacity deliveries.old }
 {
-    deliveries.retain(|delivery| !delivery.is_settled(tag, multiple));
+    let Some(delivery) = deliveries.remove(place) else {
+        unreachable!()
+    };
+    shares::count_out(shares, pushed, delivery.consumer);
+    delivery.copy
 }

@@ -3,6 +3,8 @@
 
 mod channel;
 mod delivery;
+mod shares;
+mod tags;
 
 pub use channel::{Channel, SettleFault};
 pub use delivery::{Consumer, CopyNo, Delivery};

@@ -1,0 +1,13 @@
+use Rattle.std.proofs.Common.{◌-◌, sym, ◌∙◌}
+use Rattle.broker_channels.specs.declared.shares.Share.{Share}
+use Rattle.broker_channels.proofs.ShareLemmas.{set-is, none-is}
+use Rattle.broker_channels.proofs.shares.subtract.Goals as goal
+
+pub returns-in-Some-clause-shares : goal.returns-in-Some-clause-shares
+returns-in-Some-clause-shares c =
+    let share = c.in-Some.share.now in
+    rw c.saturating_sub-share.ensures ((c.get_mut.follows.holds (record { window = share.window; held = share.held - 1 })).0 ∙ set-is c.args.number (λ (s : Share). record s { held = s.held - 1 }) c.args.shares.now.entries share c.get_mut.ensures.unique (sym c.in-Some.ensures.value))
+
+pub returns-in_default-clause-shares : goal.returns-in_default-clause-shares
+returns-in_default-clause-shares c =
+    rw c.get_mut.follows.holds-at-none (sym (none-is c.args.number (λ (s : Share). record s { held = s.held - 1 }) c.args.shares.now.entries (sym c.in_default.ensures.value)))
