@@ -18,7 +18,7 @@ use Rattle.fed_journal.specs.Consume.{or_tag_in_use}
 use Rattle.fed_journal.specs.Declare.{is_refused, declared_again, queue_declared, is_exchange_refused, exchange_again, exchange_declared}
 
 -- the answer that something is made
-is_made : Result Bool Reason → Bool
+abbrev is_made : Result Bool Reason → Bool
 is_made (Ok made) = made
 is_made (Err reason) = false
 

@@ -1,7 +1,7 @@
 -- Each row brings entries that fit.
 use Rattle.std.proofs.Common.{ℕ, ◌+◌, ◌≤◌, ◌<◌, ◌^◌, List, [], ◌∷◌, ◌++◌, length, Bool, true, false, Option, Some, None, arith, sym, subst, append_assoc, length-append}
 use Rattle.std.proofs.lemmas.List.Elements.{All-head, All-tail}
-use Rattle.std.specs.Prelude.{All, Ok, Err, not, if◌then◌else◌, find, map}
+use Rattle.std.specs.Prelude.{All, Result, Ok, Err, not, if◌then◌else◌, find, map}
 use Rattle.fed_journal.specs.declared.place.Place.{Place}
 use Rattle.amqp_props.specs.declared.message.Message.{Message}
 use Rattle.fed_journal.specs.declared.event.Event.{Event}
