@@ -5,11 +5,13 @@ ghost use Rattle.std.specs.List.{filter_map, AllPairs, Any};
 ghost use Rattle.field_tables.specs.View.{table_view};
 ghost use Rattle.route_core.specs.declared.binding.Binding.{Binding as SpecBinding};
 ghost use Rattle.route_core.specs.Objects.{is_after, number_of as number_of_node};
+ghost use Rattle.route_core.specs.Sources.{source_codes};
 ghost use Rattle.route_core.specs.Walks.{publish, Reaches, AreRoutes, IsWalkLimit};
 ghost use Rattle.route_core.specs.Routes.{routed_names, routed_numbers};
 ghost use Rattle.route_core.specs.Spreading.{number_at as number_at_stops, is_queue_at, gate_limit as gate_limit_of, AreStops, IsGate, GateAt};
 
 use crate::binding::Binding;
+use crate::chains::Chains;
 use crate::object::{Node, Object, QueueNo, Sort, same_sort, sort_of};
 use crate::taking::{exchange_node, matches};
 use crate::walking::{Publication, Reached, is_among, reach, reach_named};
@@ -119,15 +121,17 @@ pub(crate) fn walked(
     alloc: Global,
     objects: &[Object],
     bindings: &[Binding],
+    sources: &Chains,
     publication: Publication,
 ) -> Result<(Vec<QueueNo>, u32), AllocError>
     requires named { publication.exchange.now ≢ [] }
+    requires sources { sources.now.codes ≡ source_codes bindings.now }
     requires order { AllPairs (λ earlier later. is_after earlier later ≡ true) objects.now }
     ensures routes { IfOk result (λ answer. AreRoutes (record { objects = objects.now; bindings = bindings.now }) (publish publication.entry.exchange.now publication.entry.key.now (table_view publication.entry.headers.now)) answer.0.items) }
     ensures numbers { IfOk result (λ answer. answer.0.items ≡ routed_numbers (record { objects = objects.now; bindings = bindings.now }) (publish publication.entry.exchange.now publication.entry.key.now (table_view publication.entry.headers.now))) }
     ensures limit { IfOk result (λ answer. IsWalkLimit (record { objects = objects.now; bindings = bindings.now }) (publish publication.entry.exchange.now publication.entry.key.now (table_view publication.entry.headers.now)) answer.1) }
 {
-    let stops = reach(alloc, objects, bindings, publication)?;
+    let stops = reach(alloc, objects, bindings, sources, publication)?;
     let numbers = numbers_of(alloc, objects, &stops)?;
     let limit = greatest_limit(objects, bindings, publication, &stops);
     Ok((numbers, limit))
@@ -154,12 +158,14 @@ pub(crate) fn names_walked(
     alloc: Global,
     objects: &[Object],
     bindings: &[Binding],
+    sources: &Chains,
     publication: Publication,
 ) -> Result<Vec<Text>, AllocError>
     requires named { publication.exchange.now ≢ [] }
+    requires sources { sources.now.codes ≡ source_codes bindings.now }
     ensures { IfOk result (λ names. names.items ≡ routed_names (record { objects = objects.now; bindings = bindings.now }) (publish publication.entry.exchange.now publication.entry.key.now (table_view publication.entry.headers.now))) }
 {
-    let stops = reach(alloc, objects, bindings, publication)?;
+    let stops = reach(alloc, objects, bindings, sources, publication)?;
     let names = names_of(alloc, objects, &stops)?;
     Ok(names)
 }

@@ -32,7 +32,7 @@ fn takes_by_type(kind: ExchangeKind, binding: &Binding, publication: Publication
     }
 }
 
-fn takes_from(node: &Node, binding: &Binding, publication: Publication) -> bool
+pub(crate) fn takes_from(node: &Node, binding: &Binding, publication: Publication) -> bool
     ensures { IsTrue result ↔ TakesFrom node.now (publish publication.entry.exchange.now publication.entry.key.now (table_view publication.entry.headers.now)) binding.now }
 {
     match node {
