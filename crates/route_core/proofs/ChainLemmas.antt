@@ -1,8 +1,10 @@
 -- What holds of chains through the items of a list.
-use Rattle.std.proofs.Common.{◌≡◌, ◌≢◌, ℕ, ◌+◌, ◌-◌, ◌<◌, ◌≤◌, inl, inr, List, [], ◌∷◌, ◌++◌, length, get_or, set, ap, sym, ◌∙◌, subst, arith}
+use Rattle.std.proofs.Common.{◌≡◌, ◌≢◌, ℕ, ◌+◌, ◌-◌, ◌<◌, ◌≤◌, inl, inr, Bool, true, false, List, [], ◌∷◌, ◌++◌, map, length, get_or, set, refl, ap, sym, ◌∙◌, subst, arith}
 use Rattle.std.specs.Prelude.{◌%◌}
 use Rattle.std.proofs.lemmas.Bool.{cases_eq, cases_lt}
-use Rattle.std.proofs.lemmas.List.{get_or_append_left, get_or_default, get_or-set_same, get_or-set_other}
+use Rattle.std.proofs.lemmas.List.{get_or_append_left, get_or_default, get_or-set_same, get_or-set_other, get_or-map, length-map}
+use Rattle.std.specs.List.{list_any}
+use Rattle.std.proofs.lemmas.List.Folds.{list_any_none}
 use Rattle.route_core.specs.Chains.{IsLast, IsLastIn, IsLastOf, IsLinked}
 
 pub last_none : (part : ℕ → ℕ) (wanted : ℕ) (codes : List ℕ) → IsLast part wanted codes 0 0
@@ -149,3 +151,32 @@ seek_last codes before heads cs hs width n code q a result ec ew linked en eq lt
     (subst (λ x. IsLastIn width q codes n x) (sym ea) (linked.heads_last q lt)))) in
     subst (λ k. IsLastOf code codes k result) en
     (subst (λ (xs : List ℕ). IsLastOf code xs n result) ec (f n (omega (arith, ap (λ (xs : List ℕ). length xs) ec)) g))
+
+-- ---- a search through the items of one code
+
+-- no item from this place on passes
+abbrev pub NoneFrom : {X : Type 0} → (X → Bool) → ℕ → List X → Type 0
+NoneFrom {X} test at xs = (k : ℕ) (d : X) → at ≤ k → k < length xs → test (get_or xs k d) ≡ false
+
+no_test : {X : Type 0} (f : X → ℕ) (test : X → Bool) (code : ℕ) → ((x : X) → test x ≡ true → f x ≡ code) → (xs : List X) (codes : List ℕ) (k : ℕ) (d : X) → codes ≡ map f xs → k < length xs → get_or codes k 0 ≢ code → test (get_or xs k d) ≡ false
+no_test f test code same xs codes k d e lt other =
+    elim (test (get_or xs k d)) as (λ t. test (get_or xs k d) ≡ t → t ≡ false) [
+      | true ↦ (λ h. absurd (other (ap (λ (cs : List ℕ). get_or cs k 0) e ∙ get_or-map f xs k d 0 lt ∙ same (get_or xs k d) h)))
+      | false ↦ (λ _. refl)
+    ] refl
+
+pub none_last : {X : Type 0} (f : X → ℕ) (test : X → Bool) (code : ℕ) → ((x : X) → test x ≡ true → f x ≡ code) → (xs : List X) (codes : List ℕ) (at : ℕ) → codes ≡ map f xs → IsLastOf code codes (length codes) at → NoneFrom test at xs
+none_last f test code same xs codes at e h = λ k d le lt.
+    no_test f test code same xs codes k d e lt (h.none k le (omega (arith, ap (λ (cs : List ℕ). length cs) e, length-map xs f)))
+
+pub none_next : {X : Type 0} (f : X → ℕ) (test : X → Bool) (code : ℕ) → ((x : X) → test x ≡ true → f x ≡ code) → (xs : List X) (codes : List ℕ) (at next : ℕ) (x : X) → codes ≡ map f xs → 0 < at → at ≤ length xs → get_or codes (at - 1) 0 ≡ code → x ≡ get_or xs (at - 1) x → test x ≡ false → IsLastOf (get_or codes (at - 1) 0) codes (at - 1) next → NoneFrom test at xs → NoneFrom test next xs
+none_next {X} f test code same xs codes at next x e pos within here is off h later = λ k d le lt. elim (cases_lt k at) [
+  | inl less ↦ elim (cases_eq k (at - 1)) [
+    | inl last ↦ subst (λ j. test (get_or xs j d) ≡ false) (sym last) (ap test (get_or_default xs (at - 1) d x (omega arith) ∙ sym is) ∙ off)
+    | inr differs ↦ no_test f test code same xs codes k d e lt (λ g. h.none k le (omega (arith, differs)) (g ∙ sym here))
+  ]
+  | inr more ↦ later k d more lt
+]
+
+pub none_any : {X : Type 0} (test : X → Bool) (xs : List X) (at : ℕ) → at ≡ 0 → NoneFrom test at xs → list_any test xs ≡ false
+none_any test xs at end h = list_any_none test xs (λ k d lt. h k d (omega arith) lt)

@@ -52,7 +52,7 @@ impl<'a> Reached<'a> {
     }
 
     /// The name of an exchange.
-    fn exchange(&self) -> Option<&'a str>
+    pub(crate) fn exchange(&self) -> Option<&'a str>
         ensures { option_copied result ≡ exchange_of self.now }
     {
         match self.sort {
