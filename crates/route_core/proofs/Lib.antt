@@ -1,8 +1,10 @@
+pub mod ChainLemmas
 pub mod LimitLemmas
 pub mod Lists
 pub mod ObjectLemmas
 pub mod RoundLemmas
 pub mod RouteLemmas
 pub mod RoutedLemmas
+pub mod SpreadLemmas
 pub mod StopLemmas
 pub mod TakingLemmas

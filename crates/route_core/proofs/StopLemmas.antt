@@ -73,7 +73,7 @@ fewer stops s b h =
       | false ↦ (λ _. refl)
     ] refl
 
-left_falls : (bindings : List Binding) (stops : List Stop) (b : Binding) → Contains bindings b → is_among stops b.sort b.dest ≡ false → left (stops ++ dest_of b ∷ []) bindings + 1 ≤ left stops bindings
+pub left_falls : (bindings : List Binding) (stops : List Stop) (b : Binding) → Contains bindings b → is_among stops b.sort b.dest ≡ false → left (stops ++ dest_of b ∷ []) bindings + 1 ≤ left stops bindings
 left_falls bindings stops b c h =
     filter_less (λ (x : Binding). not (is_among (stops ++ dest_of b ∷ []) x.sort x.dest)) (λ (x : Binding). not (is_among stops x.sort x.dest)) (λ x e. fewer stops (dest_of b) x e) bindings b c (ap not (among_last stops b.sort b.dest)) (ap not h)
 

@@ -1,4 +1,5 @@
 pub mod Bindings
+pub mod Chains
 pub mod Codes
 pub mod Inside
 pub mod Laws
@@ -6,6 +7,7 @@ pub mod Objects
 pub mod Routes
 pub mod Routing
 pub mod SameBindings
+pub mod Sources
 pub mod Spreading
 pub mod Walks
 pub mod Predeclared

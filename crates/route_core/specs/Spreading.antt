@@ -1,6 +1,6 @@
 -- How the search for routes goes on: what has been reached, and what is left to look at.
-use Rattle.std.specs.Prelude.{◌≡◌, ℕ, ◌+◌, ◌≤◌, Bool, true, false, not, ◌&&◌, List, ◌++◌, Option, Some, None, All, length, filter, if◌then◌else◌}
-use Rattle.std.specs.List.{list_any}
+use Rattle.std.specs.Prelude.{◌≡◌, ℕ, ◌+◌, ◌<◌, ◌≤◌, Bool, true, false, not, ◌&&◌, List, ◌++◌, Option, Some, None, All, length, filter, if◌then◌else◌}
+use Rattle.std.specs.List.{list_any, Any}
 use Rattle.std.specs.Str.{bytes_eq}
 use Rattle.route_core.specs.declared.object.Sort.{Sort}
 use Rattle.route_core.specs.declared.object.Sort.TheVariants as sorts
@@ -10,7 +10,7 @@ use Rattle.route_core.specs.declared.object.Object.{Object}
 use Rattle.route_core.specs.declared.binding.Binding.{Binding}
 use Rattle.route_core.specs.Objects.{same_sort, number_of, sort_of}
 use Rattle.route_core.specs.Routing.{Routing}
-use Rattle.route_core.specs.Walks.{Publish, Stop, stop, source_of, exchange_node, Matches, IsReached}
+use Rattle.route_core.specs.Walks.{Publish, Stop, stop, exchange_stop, source_of, exchange_node, Matches, IsReached}
 
 abbrev pub is_at : Sort → List ℕ → Stop → Bool
 is_at sort name s = same_sort s.sort sort && bytes_eq s.name name
@@ -78,3 +78,19 @@ pub record GateAt (objects : List Object) (p : Publish) (stops : List Stop) (b :
   pub there : is_among stops sorts.Exchange b.source ≡ true
   pub matches : Matches objects p b
   pub gate : IsGate objects b.source limit
+
+-- the binding leaves the exchange of this name, and matches
+pub record IsOver (objects : List Object) (p : Publish) (name : List ℕ) (b : Binding) : Type 0 where
+  pub leaves : b.source ≡ name
+  pub matches : Matches objects p b
+
+-- the limit of the gate of this name, if the message passes it, else 0
+pub record IsLimitFrom (objects : List Object) (p : Publish) (bindings : List Binding) (name : List ℕ) (limit : ℕ) : Type 0 where
+  pub gate : 0 < limit → IsGate objects name limit
+  pub some : 0 < limit → Any (IsOver objects p name) bindings
+  pub greatest : (other : ℕ) → IsGate objects name other → All (λ b. IsOver objects p name b → other ≤ limit) bindings
+
+-- the same for what was reached; a queue is no gate
+pub record IsLimitAt (objects : List Object) (p : Publish) (bindings : List Binding) (at : Stop) (limit : ℕ) : Type 0 where
+  pub gate : 0 < limit → (at ≡ exchange_stop at.name) × IsLimitFrom objects p bindings at.name limit
+  pub greatest : at ≡ exchange_stop at.name → IsLimitFrom objects p bindings at.name limit

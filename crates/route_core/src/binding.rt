@@ -1,12 +1,15 @@
 //! Bindings.
 
-ghost use Rattle.std.specs.Prelude.{◌≡◌, ◌↔◌, IsTrue, ◌≤◌, not, filter, slice_get, vec_len, vec_capacity};
+ghost use Rattle.std.specs.Prelude.{◌≡◌, ◌↔◌, IsTrue, IfSome, IfNone, false, ◌+◌, ◌≤◌, not, filter, length, slice_get, vec_len, vec_capacity};
 ghost use Rattle.std.specs.Cmp.{partial_equiv_from_equiv};
+ghost use Rattle.std.specs.List.{Contains, list_any};
 ghost use Rattle.std.specs.Option.{option_copied};
 ghost use Rattle.field_tables.specs.View.{table_view};
 ghost use Rattle.route_core.specs.Bindings.{binding_of, is_same as is_same_binding, leaves as binding_leaves, ends_with as binding_ends_with, has_binding as has_same};
 ghost use Rattle.route_core.specs.SameBindings.{binding_laws};
+ghost use Rattle.route_core.specs.Sources.{source_code as source_code_of, source_codes};
 
+use crate::chains::{Chains, code_from};
 use crate::object::{Sort, same_sort};
 use amqp_props::{FieldTable, Text};
 use field_tables::Table;
@@ -148,6 +151,27 @@ pub(crate) fn remove_ends(bindings: &mut Vec<Binding>, sort: Sort, name: &str)
     bindings.retain(|binding| !ends_with(binding, sort, name));
 }
 
+/// The last binding that leaves the exchange; only those that the chain of its name has are read.
+pub(crate) fn last_from<'a>(
+    bindings: &'a [Binding],
+    sources: &Chains,
+    exchange: &str,
+) -> Option<&'a Binding>
+    requires { sources.now.codes ≡ source_codes bindings.now }
+    ensures some { IfSome result (λ b. Contains bindings.now b.now × (b.now.source ≡ exchange.now)) }
+    ensures none { IfNone result (list_any (binding_leaves exchange.now) bindings.now ≡ false) }
+{
+    let mut at = sources.last(source_code(exchange));
+    while at > 0 {
+        let binding = &bindings[at - 1];
+        if leaves(binding, exchange) {
+            return Some(binding);
+        }
+        at = sources.before(at - 1);
+    }
+    None
+}
+
 /// The binding at that place among those from the exchange.
 pub(crate) fn binding_at<'a>(
     bindings: &'a [Binding],
@@ -166,4 +190,23 @@ pub(crate) fn binding_at<'a>(
         }
     }
     None
+}
+
+/// The code of the name of an exchange.
+pub(crate) fn source_code(exchange: &str) -> u64
+    ensures { result ≡ source_code_of exchange.now }
+{
+    code_from(0, exchange)
+}
+
+/// Chains the bindings anew by the exchanges that they leave, in the room that is there.
+pub(crate) fn chain_sources(sources: &mut Chains, bindings: &[Binding])
+    requires room { length bindings.now ≤ length sources.old.codes + sources.old.spare }
+    ensures codes { sources.new.codes ≡ source_codes bindings.now }
+    ensures spare { sources.new.spare + length bindings.now ≡ sources.old.spare + length sources.old.codes }
+{
+    sources.clear();
+    for binding in bindings {
+        sources.push(source_code(binding.source.as_str()));
+    }
 }

@@ -2,6 +2,7 @@
 #![tactic(auto)]
 
 mod binding;
+mod chains;
 mod fault;
 mod laws;
 mod object;

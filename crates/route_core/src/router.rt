@@ -10,7 +10,11 @@ ghost use Rattle.route_core.specs.Routing.{predeclared as predeclared_exchanges,
 ghost use Rattle.route_core.specs.Walks.{publish, AreRoutes, IsWalkLimit};
 ghost use Rattle.route_core.specs.Routes.{routed_names, routed_numbers, walk_limit};
 
-use crate::binding::{Asked, Binding, binding_at, has_binding, remove_binding, remove_ends};
+use crate::binding::{
+    Asked, Binding, binding_at, chain_sources, has_binding, remove_binding, remove_ends,
+    source_code,
+};
+use crate::chains::Chains;
 use crate::fault::RouteFault;
 use crate::object::{Node, Object, QueueNo, Sort, has, predeclared, remove_object};
 use crate::routes::{named, names_named, names_walked, walked};
@@ -25,6 +29,8 @@ use std::marker::Model;
 pub struct Router {
     objects: Vec<Object>,
     bindings: Vec<Binding>,
+    /// The bindings by the exchange that they leave.
+    sources: Chains,
     spare_objects: usize,
     spare_bindings: usize,
 }
@@ -57,6 +63,7 @@ impl Router {
         Ok(Router {
             objects: predeclared(alloc)?,
             bindings: Vec::new(alloc),
+            sources: Chains::new(alloc)?,
             spare_objects: 0,
             spare_bindings: 0,
         })
@@ -94,6 +101,7 @@ impl Router {
         }
         remove_object(&mut self.objects, sort, name);
         remove_ends(&mut self.bindings, sort, name);
+        chain_sources(&mut self.sources, &self.bindings);
         true
     }
 
@@ -168,6 +176,7 @@ impl Router {
             return false;
         }
         remove_binding(&mut self.bindings, asked);
+        chain_sources(&mut self.sources, &self.bindings);
         true
     }
 
@@ -184,6 +193,7 @@ impl Router {
     {
         self.objects.reserve(objects)?;
         self.bindings.reserve(bindings)?;
+        self.sources.reserve(bindings)?;
         self.spare_objects = self.spare_objects.max(objects);
         self.spare_bindings = self.spare_bindings.max(bindings);
         Ok(())
@@ -237,10 +247,12 @@ impl Router {
         ensures objects { self.new.spare_objects ≡ self.old.spare_objects }
         ensures bindings { self.new.spare_bindings + 1 ≡ self.old.spare_bindings }
     {
+        let code = source_code(binding.source.as_str());
         match self.bindings.push(binding) {
             Ok(()) => {}
             Err(_) => unreachable!(),
         }
+        self.sources.push(code);
         self.spare_bindings -= 1;
     }
 
@@ -276,7 +288,13 @@ impl Router {
         if !has(&self.objects, Sort::Exchange, exchange) {
             return Err(RouteFault::NoExchange);
         }
-        Ok(walked(alloc, &self.objects, &self.bindings, publication)?)
+        Ok(walked(
+            alloc,
+            &self.objects,
+            &self.bindings,
+            &self.sources,
+            publication,
+        )?)
     }
 
     /// The names of the queues that a message reaches, in the order of their making; none where there is no such
@@ -298,7 +316,13 @@ impl Router {
         if exchange.is_empty() {
             return Ok(names_named(alloc, &self.objects, publication)?);
         }
-        Ok(names_walked(alloc, &self.objects, &self.bindings, publication)?)
+        Ok(names_walked(
+            alloc,
+            &self.objects,
+            &self.bindings,
+            &self.sources,
+            publication,
+        )?)
     }
 
     /// The bindings, in the order of binding.

@@ -1,17 +1,19 @@
 //! The queues of a message, and the greatest limit of the gates that it passes.
 
-ghost use Rattle.std.specs.Prelude.{◌≡◌, ◌≢◌, ◌<◌, ◌≤◌, ℕ, List, [], true, All, IfOk, filter, map};
+ghost use Rattle.std.specs.Prelude.{◌≡◌, ◌≢◌, ◌<◌, ◌≤◌, ℕ, List, [], true, false, All, IfOk, filter, map};
 ghost use Rattle.std.specs.List.{filter_map, AllPairs, Any};
 ghost use Rattle.field_tables.specs.View.{table_view};
 ghost use Rattle.route_core.specs.declared.binding.Binding.{Binding as SpecBinding};
 ghost use Rattle.route_core.specs.Objects.{is_after, number_of as number_of_node};
+ghost use Rattle.route_core.specs.Sources.{source_codes};
 ghost use Rattle.route_core.specs.Walks.{publish, Reaches, AreRoutes, IsWalkLimit};
 ghost use Rattle.route_core.specs.Routes.{routed_names, routed_numbers};
-ghost use Rattle.route_core.specs.Spreading.{number_at as number_at_stops, is_queue_at, AreStops, IsGate, GateAt};
+ghost use Rattle.route_core.specs.Spreading.{number_at as number_at_stops, is_queue_at, gate_limit as gate_limit_of, AreStops, IsGate, GateAt, IsOver, IsLimitFrom, IsLimitAt};
 
-use crate::binding::Binding;
+use crate::binding::{Binding, last_from};
+use crate::chains::Chains;
 use crate::object::{Node, Object, QueueNo, Sort, same_sort, sort_of};
-use crate::taking::{exchange_node, matches};
+use crate::taking::{exchange_node, takes_from};
 use crate::walking::{Publication, Reached, is_among, reach, reach_named};
 use amqp_props::Text;
 use std::alloc::{AllocError, Global};
@@ -69,22 +71,60 @@ fn names_of(alloc: Global, objects: &[Object], stops: &[Reached]) -> Result<Vec<
     Ok(names)
 }
 
-/// The limit of the gate that the binding leaves, if it does and the message passes there.
-fn limit_at(
+/// Whether a binding that leaves the exchange matches; one is as good as any where it is a gate.
+fn lets_on(
     objects: &[Object],
-    binding: &Binding,
+    bindings: &[Binding],
+    sources: &Chains,
     publication: Publication,
-    stops: &[Reached],
-) -> u32
-    ensures some { 0 < result → GateAt objects.now (publish publication.entry.exchange.now publication.entry.key.now (table_view publication.entry.headers.now)) stops.now binding.now result }
-    ensures greatest { (other : ℕ) → GateAt objects.now (publish publication.entry.exchange.now publication.entry.key.now (table_view publication.entry.headers.now)) stops.now binding.now other → other ≤ result }
+    name: &str,
+) -> bool
+    requires { sources.now.codes ≡ source_codes bindings.now }
+    ensures yes { result ≡ true → Any (IsOver objects.now (publish publication.entry.exchange.now publication.entry.key.now (table_view publication.entry.headers.now)) name.now) bindings.now }
+    ensures no { result ≡ false → (limit : ℕ) → IsGate objects.now name.now limit → All (λ b. IsOver objects.now (publish publication.entry.exchange.now publication.entry.key.now (table_view publication.entry.headers.now)) name.now b → ⊥) bindings.now }
 {
-    if is_among(stops, Sort::Exchange, binding.source.as_str())
-        && matches(objects, binding, publication)
-    {
-        gate_limit(objects, binding.source.as_str())
+    let Some(node) = exchange_node(objects, name) else {
+        return false;
+    };
+    match last_from(bindings, sources, name) {
+        Some(binding) => takes_from(node, binding, publication),
+        None => false,
+    }
+}
+
+/// The limit of the exchange of this name, if it is a gate and the message passes there.
+fn limit_from(
+    objects: &[Object],
+    bindings: &[Binding],
+    sources: &Chains,
+    publication: Publication,
+    name: &str,
+) -> u32
+    requires { sources.now.codes ≡ source_codes bindings.now }
+    ensures { IsLimitFrom objects.now (publish publication.entry.exchange.now publication.entry.key.now (table_view publication.entry.headers.now)) bindings.now name.now result }
+{
+    let limit = gate_limit(objects, name);
+    if limit > 0 && lets_on(objects, bindings, sources, publication, name) {
+        limit
     } else {
         0
+    }
+}
+
+/// The limit of what was reached, if it is a gate and the message passes there.
+fn limit_at(
+    objects: &[Object],
+    bindings: &[Binding],
+    sources: &Chains,
+    publication: Publication,
+    stop: &Reached,
+) -> u32
+    requires { sources.now.codes ≡ source_codes bindings.now }
+    ensures { IsLimitAt objects.now (publish publication.entry.exchange.now publication.entry.key.now (table_view publication.entry.headers.now)) bindings.now stop.now result }
+{
+    match stop.exchange() {
+        Some(name) => limit_from(objects, bindings, sources, publication, name),
+        None => 0,
     }
 }
 
@@ -101,15 +141,17 @@ fn gate_limit(objects: &[Object], name: &str) -> u32
 fn greatest_limit(
     objects: &[Object],
     bindings: &[Binding],
+    sources: &Chains,
     publication: Publication,
     stops: &[Reached],
 ) -> u32
+    requires { sources.now.codes ≡ source_codes bindings.now }
     ensures some { 0 < result → Any (λ b. GateAt objects.now (publish publication.entry.exchange.now publication.entry.key.now (table_view publication.entry.headers.now)) stops.now b result) bindings.now }
     ensures greatest { All (λ b. (other : ℕ) → GateAt objects.now (publish publication.entry.exchange.now publication.entry.key.now (table_view publication.entry.headers.now)) stops.now b other → other ≤ result) bindings.now }
 {
     let mut greatest = 0;
-    for binding in bindings {
-        greatest = greatest.max(limit_at(objects, binding, publication, stops));
+    for stop in stops {
+        greatest = greatest.max(limit_at(objects, bindings, sources, publication, stop));
     }
     greatest
 }
@@ -119,17 +161,19 @@ pub(crate) fn walked(
     alloc: Global,
     objects: &[Object],
     bindings: &[Binding],
+    sources: &Chains,
     publication: Publication,
 ) -> Result<(Vec<QueueNo>, u32), AllocError>
     requires named { publication.exchange.now ≢ [] }
+    requires sources { sources.now.codes ≡ source_codes bindings.now }
     requires order { AllPairs (λ earlier later. is_after earlier later ≡ true) objects.now }
     ensures routes { IfOk result (λ answer. AreRoutes (record { objects = objects.now; bindings = bindings.now }) (publish publication.entry.exchange.now publication.entry.key.now (table_view publication.entry.headers.now)) answer.0.items) }
     ensures numbers { IfOk result (λ answer. answer.0.items ≡ routed_numbers (record { objects = objects.now; bindings = bindings.now }) (publish publication.entry.exchange.now publication.entry.key.now (table_view publication.entry.headers.now))) }
     ensures limit { IfOk result (λ answer. IsWalkLimit (record { objects = objects.now; bindings = bindings.now }) (publish publication.entry.exchange.now publication.entry.key.now (table_view publication.entry.headers.now)) answer.1) }
 {
-    let stops = reach(alloc, objects, bindings, publication)?;
+    let stops = reach(alloc, objects, bindings, sources, publication)?;
     let numbers = numbers_of(alloc, objects, &stops)?;
-    let limit = greatest_limit(objects, bindings, publication, &stops);
+    let limit = greatest_limit(objects, bindings, sources, publication, &stops);
     Ok((numbers, limit))
 }
 
@@ -154,12 +198,14 @@ pub(crate) fn names_walked(
     alloc: Global,
     objects: &[Object],
     bindings: &[Binding],
+    sources: &Chains,
     publication: Publication,
 ) -> Result<Vec<Text>, AllocError>
     requires named { publication.exchange.now ≢ [] }
+    requires sources { sources.now.codes ≡ source_codes bindings.now }
     ensures { IfOk result (λ names. names.items ≡ routed_names (record { objects = objects.now; bindings = bindings.now }) (publish publication.entry.exchange.now publication.entry.key.now (table_view publication.entry.headers.now))) }
 {
-    let stops = reach(alloc, objects, bindings, publication)?;
+    let stops = reach(alloc, objects, bindings, sources, publication)?;
     let names = names_of(alloc, objects, &stops)?;
     Ok(names)
 }

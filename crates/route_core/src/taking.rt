@@ -3,7 +3,7 @@
 ghost use Rattle.std.specs.Prelude.{◌≡◌, ◌↔◌, IsTrue};
 ghost use Rattle.std.specs.Option.{option_copied};
 ghost use Rattle.field_tables.specs.View.{table_view};
-ghost use Rattle.route_core.specs.Walks.{publish, exchange_node as exchange_node_of, TakesByType, TakesFrom, Matches};
+ghost use Rattle.route_core.specs.Walks.{publish, exchange_node as exchange_node_of, TakesByType, TakesFrom};
 
 use crate::binding::Binding;
 use crate::object::{Node, Object, Sort, is_named};
@@ -32,7 +32,8 @@ fn takes_by_type(kind: ExchangeKind, binding: &Binding, publication: Publication
     }
 }
 
-fn takes_from(node: &Node, binding: &Binding, publication: Publication) -> bool
+/// Whether the exchange takes the message over the binding.
+pub(crate) fn takes_from(node: &Node, binding: &Binding, publication: Publication) -> bool
     ensures { IsTrue result ↔ TakesFrom node.now (publish publication.entry.exchange.now publication.entry.key.now (table_view publication.entry.headers.now)) binding.now }
 {
     match node {
@@ -48,15 +49,5 @@ fn takes_from(node: &Node, binding: &Binding, publication: Publication) -> bool
             vhost.as_str(),
             publication.headers,
         ),
-    }
-}
-
-/// Whether the exchange that the binding leaves takes the message over it.
-pub(crate) fn matches(objects: &[Object], binding: &Binding, publication: Publication) -> bool
-    ensures { IsTrue result ↔ Matches objects.now (publish publication.entry.exchange.now publication.entry.key.now (table_view publication.entry.headers.now)) binding.now }
-{
-    match exchange_node(objects, binding.source.as_str()) {
-        Some(node) => takes_from(node, binding, publication),
-        None => false,
     }
 }

@@ -4,5 +4,5 @@ use Rattle.route_core.specs.Walks.{publish}
 use Rattle.route_core.proofs.RouteLemmas.{IsLimitOf}
 use Rattle.route_core.proofs.routes.greatest_limit.Given as goal
 
-abbrev pub invariant-loop-binding : goal.invariant-loop-binding
-invariant-loop-binding l = IsLimitOf l.objects (publish l.publication.exchange.now l.publication.key.now (table_view l.publication.headers.now)) l.stops l.bindings (take l.binding-index l.bindings) l.greatest
+abbrev pub invariant-loop-stop : goal.invariant-loop-stop
+invariant-loop-stop l = IsLimitOf l.objects (publish l.publication.exchange.now l.publication.key.now (table_view l.publication.headers.now)) l.stops l.bindings (take l.stop-index l.stops) l.greatest

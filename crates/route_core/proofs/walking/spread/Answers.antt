@@ -1,33 +1,41 @@
-use Rattle.std.proofs.Common.{◌≡◌, ℕ, ◌∷◌, ◌++◌, [], List, sym, ap, subst, ◌∙◌}
-use Rattle.std.proofs.lemmas.List.{take_all}
+use Rattle.std.proofs.Common.{rules, ◌≡◌, ◌-◌, ◌<◌, ◌≤◌, List, [], ◌∷◌, ◌++◌, ℕ, None, Some, length, ap, ◌∙◌, arith}
+use Rattle.std.specs.Prelude.{slice_index_or}
 use Rattle.field_tables.specs.View.{table_view}
-use Rattle.route_core.specs.declared.binding.Binding.{Binding}
-use Rattle.route_core.specs.Walks.{publish, exchange_stop, dest_of, stop}
-use Rattle.route_core.specs.Spreading.{Spreads}
-use Rattle.route_core.proofs.Lists.{take_step}
-use Rattle.route_core.proofs.StopLemmas.{spreads_none, spreads_skip, spreads_push}
+use Rattle.route_core.specs.Sources.{source_code}
+use Rattle.route_core.specs.Walks.{publish, dest_of, stop, exchange_node}
+use Rattle.route_core.proofs.SpreadLemmas.{SpreadsFrom, codes_length, from_last, from_skip, from_push, from_next, spreads_nowhere}
 use Rattle.route_core.proofs.walking.spread.Goals as goal
 use Rattle.route_core.proofs.walking.spread.Goals.{then-leads_on+in_ok-push, else-leads_on}
 
-pub loop-binding-init : goal.loop-binding-init
-loop-binding-init c = spreads_none _ _ _ _
+pub returns-in_default : goal.returns-in_default
+returns-in_default c =
+    let nowhere : exchange_node c.args.from.now c.args.objects.now ≡ None = search rules in
+    spreads_nowhere _ _ _ _ nowhere
 
-pub loop-binding-preserved : goal.loop-binding-preserved
-loop-binding-preserved c =
-    let b = c.binding-item.result in
-    let now = take_step c.args.bindings.now c.loop-binding.binding-index b c.loop-binding-test.true c.binding-item.is in
+pub loop-at-init : goal.loop-at-init
+loop-at-init c =
+    let code = c.source_code.ensures in
+    let last = rw code at c.last-at.ensures in
+    let long = codes_length c.args.bindings.now c.args.sources.now.codes c.requires in
+    (omega (arith, last.within, long), last.here, from_last _ _ _ _ c.args.sources.now.codes _ c.requires last)
+
+pub loop-at-preserved : goal.loop-at-preserved
+loop-at-preserved c =
+    let b = c.index-bindings-at.result in
+    let at = c.loop-at.at in
+    let pos : 0 < at = omega (arith, c.loop-at-test.true) in
+    let within : at ≤ length c.args.bindings.now = c.loop-at.invariant.0 in
+    let node : exchange_node c.args.from.now c.args.objects.now ≡ Some c.in-Some.node.now = search rules in
+    let code : slice_index_or c.args.sources.now.codes (at - 1) 0 ≡ source_code c.args.from.now = c.loop-at.invariant.1 pos in
+    let from : SpreadsFrom (record { objects = c.args.objects.now; bindings = c.args.bindings.now }) (publish c.args.publication.exchange.now c.args.publication.key.now (table_view c.args.publication.headers.now)) c.args.from.now (at - 1) c.args.stops.items c.if-leads_on.stops.items =
     elim c.if-leads_on.branch [
       | then-leads_on+in_ok-push w ↦
-          let items : c.if-leads_on.stops.items ≡ c.loop-binding.stops.items ++ dest_of b ∷ [] = rw w.stops-is (w.in_ok-push.ensures.items ∙ ap (λ (n : List ℕ). c.loop-binding.stops.items ++ stop b.sort n ∷ []) w.as_str.ensures) in
-          let on = rw c.deref.ensures.value at (c.leads_on.ensures.yes w.if-leads_on.true) in
-          rw (now, items) (spreads_push _ _ _ _ _ _ b c.loop-binding.invariant (c.loop-binding.binding-index, c.loop-binding-test.true, sym c.binding-item.is) on)
+          let items : c.if-leads_on.stops.items ≡ c.loop-at.stops.items ++ dest_of b ∷ [] = rw w.stops-is (w.in_ok-push.ensures.items ∙ ap (λ (n : List ℕ). c.loop-at.stops.items ++ stop b.sort n ∷ []) w.as_str.ensures) in
+          let on = rw c.deref.ensures.value at (c.leads_on.ensures.yes w.if-leads_on.true c.args.objects.now node) in
+          rw items (from_push _ _ _ _ _ _ b c.loop-at.invariant.2 pos within c.index-bindings-at.is on)
       | else-leads_on w ↦
-          let off = rw c.deref.ensures.value at (c.leads_on.ensures.no w.if-leads_on.false) in
-          rw (now, w.stops-is) (spreads_skip _ _ _ _ _ _ b c.loop-binding.invariant off)
-    ]
-
-pub returns : goal.returns
-returns c =
-    subst (λ (bs : List Binding). Spreads (record { objects = c.args.objects.now; bindings = c.args.bindings.now }) (publish c.args.publication.exchange.now c.args.publication.key.now (table_view c.args.publication.headers.now)) (exchange_stop c.args.from.now) bs c.args.stops.items c.loop-binding.stops.items)
-    (take_all c.loop-binding.binding-index c.args.bindings.now c.loop-binding-test.false)
-    c.loop-binding.invariant
+          let off = rw c.deref.ensures.value at (c.leads_on.ensures.no w.if-leads_on.false c.args.objects.now node) in
+          rw w.stops-is (from_skip _ _ _ _ _ _ b c.loop-at.invariant.2 pos within c.index-bindings-at.is off)
+    ] in
+    let last = c.before-at.ensures in
+    (omega (arith, last.within, within), λ lt. last.here lt ∙ code, from_next _ _ _ _ _ _ _ c.args.sources.now.codes c.requires code last from)
