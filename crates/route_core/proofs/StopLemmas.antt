@@ -1,5 +1,5 @@
 -- What holds of the search for routes.
-use Rattle.std.proofs.Common.{◌≡◌, ℕ, ◌+◌, ◌-◌, ◌<◌, ◌≤◌, inl, inr, true, false, not, List, [], ◌∷◌, ◌++◌, length, take, get_or, refl, ap, sym, ◌∙◌, subst, arith, length-append, append_assoc, append-nil}
+use Rattle.std.proofs.Common.{◌≡◌, ℕ, ◌+◌, ◌-◌, ◌<◌, ◌≤◌, inl, inr, true, false, not, List, [], ◌∷◌, ◌++◌, Some, None, length, take, get_or, refl, ap, sym, ◌∙◌, subst, arith, length-append, append_assoc, append-nil}
 use Rattle.std.specs.Prelude.{All}
 use Rattle.std.specs.List.{Contains}
 use Rattle.std.specs.Str.{bytes_eq}
@@ -16,7 +16,7 @@ use Rattle.route_core.specs.Objects.{same_sort}
 use Rattle.route_core.specs.SameBindings.{sort_yes, sort_self}
 use Rattle.route_core.specs.Routing.{Routing}
 use Rattle.route_core.specs.Walks.{Publish, Stop, stop, exchange_stop, queue_stop, source_of, dest_of, Matches, IsWalk, IsReached}
-use Rattle.route_core.specs.Spreading.{is_at, is_among, left, IsFollowed, LeadsOn, Spreads, AreStops}
+use Rattle.route_core.specs.Spreading.{is_at, is_among, left, IsFollowed, LeadsOn, Spreads, AreStops, exchange_of, exchange_by}
 use Rattle.route_core.proofs.Lists.{filter_less}
 
 -- ---- stops by their names
@@ -115,6 +115,13 @@ among_more before more after e sort name h =
 followed_more : (objects : List Object) (p : Publish) (bindings : List Binding) (before more after : List Stop) → after ≡ before ++ more → (from : Stop) → IsFollowed objects p bindings before from → IsFollowed objects p bindings after from
 followed_more objects p bindings before more after e from h =
     All-weaker (λ (x : Binding). source_of x ≡ from → Matches objects p x → is_among before x.sort x.dest ≡ true) (λ (x : Binding). source_of x ≡ from → Matches objects p x → is_among after x.sort x.dest ≡ true) (λ x f s m. among_more before more after e x.sort x.dest (f s m)) bindings h
+
+named_exchange : (sort : Sort) (own name : List ℕ) → exchange_by sort own ≡ Some name → stop sort own ≡ exchange_stop name
+named_exchange sorts.Queue own name e = cc
+named_exchange sorts.Exchange own name e = let f : own ≡ name = cc in ap exchange_stop f
+
+pub exchange_is : (from : Stop) (name : List ℕ) → exchange_of from ≡ Some name → from ≡ exchange_stop name
+exchange_is from name e = named_exchange from.sort from.name name e
 
 -- what is reached so far, and what has been followed of it
 pub record IsSearched (r : Routing) (p : Publish) (next : ℕ) (stops : List Stop) : Type 0 where
